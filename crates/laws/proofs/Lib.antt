@@ -1,0 +1,5 @@
+-- The laws of the words in specs/.
+pub mod Cases
+pub mod Elements
+pub mod Places
+pub mod Parts

@@ -1,0 +1,61 @@
+-- A list in places: what is used comes back, and what is not used is zero.
+use mathlib.Core.Path.{_≡_, refl, ap, sym, _∙_}
+use mathlib.Core.Bool.{Bool, true}
+use mathlib.Core.List.{List, [], _∷_, _++_}
+use Prim.Native.Nat.{ℕ, zero, suc, _-_, _≤_}
+use native.Mathlib.Omega.{arith}
+use lib.Dec.{eqb}
+use lib.ListN.{length, take, drop, replicate, length-append, length-replicate, length-drop, take-append-drop}
+use lib.Seq.{take-at, drop-at, length-take-le}
+use borrow.Author.Tests.{eqb-true, eq-eqb}
+use Rattle.laws.specs.Lists.{every, padded, unused}
+use Rattle.laws.proofs.Cases.{and-both, and-intro}
+
+module _ {A : Type 0} where
+  every-replicate : (p : A → Bool) (n : ℕ) (z : A) → p z ≡ true → every p (replicate n z) ≡ true
+  every-replicate p zero z h = refl
+  every-replicate p (suc n) z h = and-intro h (every-replicate p n z h)
+
+  -- places that hold nothing are not used, however many are
+  pub unused-replicate : (p : A → Bool) (places n : ℕ) (z : A) → p z ≡ true → unused p places n (replicate places z) ≡ true
+  unused-replicate p places n z h = and-intro (eq-eqb _ _ (length-replicate places z)) (go n places)
+    where
+      go : (n k : ℕ) → every p (drop n (replicate k z)) ≡ true
+      go zero k = every-replicate p k z h
+      go (suc n) zero = refl
+      go (suc n) (suc k) = go n k
+
+  -- a list all of whose elements are z is so many times z
+  all-equal : (p : A → Bool) (z : A) → ((x : A) → p x ≡ true → x ≡ z) → (xs : List A) → every p xs ≡ true → xs ≡ replicate (length xs) z
+  all-equal p z f [] h = refl
+  all-equal p z f (x ∷ xs) h =
+      let b = and-both (p x) (every p xs) h in
+      rw (f x (b .0)) (ap {B = List A} (λ r. z ∷ r) (all-equal p z f xs (b .1)))
+
+  pub length-padded : (places : ℕ) (z : A) (xs : List A) → length xs ≤ places → length (padded places z xs) ≡ places
+  length-padded places z xs h = length-append xs (replicate (places - length xs) z) ∙ omega (arith, length-replicate (places - length xs) z)
+
+  -- the used places of a list in places are the list
+  pub take-padded : (places : ℕ) (z : A) (n : ℕ) (xs : List A) → length xs ≡ n → take n (padded places z xs) ≡ xs
+  take-padded places z n xs h = take-at xs (replicate (places - length xs) z) n h
+
+  -- and the others are not used
+  pub unused-padded : (p : A → Bool) (places : ℕ) (z : A) (n : ℕ) (xs : List A) → p z ≡ true → length xs ≡ n → n ≤ places → unused p places n (padded places z xs) ≡ true
+  unused-padded p places z n xs h e k =
+      and-intro (eq-eqb _ _ (length-padded places z xs (omega arith)))
+      (rw (drop-at xs (replicate (places - length xs) z) n e) (every-replicate p (places - length xs) z h))
+
+  -- a list whose other places are not used is its used places in places
+  module _ (p : A → Bool) (z : A) (f : (x : A) → p x ≡ true → x ≡ z) (places n : ℕ) (xs : List A) (h : unused p places n xs ≡ true) where
+    pub length-places : length xs ≡ places
+    length-places = eqb-true (length xs) places (and-both (eqb (length xs) places) (every p (drop n xs)) h .0)
+
+    pub padded-take : n ≤ places → padded places z (take n xs) ≡ xs
+    padded-take k =
+        let b = and-both (eqb (length xs) places) (every p (drop n xs)) h in
+        let e : length (take n xs) ≡ n = length-take-le n xs (omega (arith, length-places)) in
+        let r : length (drop n xs) ≡ places - n = length-drop n xs ∙ ap (λ (l : ℕ). l - n) length-places in
+        ap (λ (l : ℕ). take n xs ++ replicate (places - l) z) e
+        ∙ ap (λ (l : ℕ). take n xs ++ replicate l z) (sym r)
+        ∙ ap (λ (t : List A). take n xs ++ t) (sym (all-equal p z f (drop n xs) (b .1)))
+        ∙ take-append-drop n xs

@@ -1,0 +1,2 @@
+-- The words that the other crates' definitions are written in.
+pub mod Lists
