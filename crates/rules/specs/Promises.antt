@@ -1,0 +1,190 @@
+-- Every promise of the rules as a named statement; proofs/ proves each under the same name with small letters.
+use mathlib.Core.Path.{_≡_}
+use mathlib.Core.Bool.{true, false}
+use mathlib.Core.List.{List, [], _∷_, map}
+use mathlib.Core.Logic.{_↔_}
+use Prim.Native.Nat.{ℕ, suc, _+_, _≤_, _<_}
+use lib.Count.{ones}
+use lib.IntN.{pos}
+use lib.ListN.{length, take, drop}
+use lib.Pow.{areBytes}
+use Rattle.rules.specs.declared.Table.{Table}
+use Rattle.rules.specs.declared.State.{State}
+use Rattle.rules.specs.declared.Answer.{Answer}
+use Rattle.rules.specs.declared.Outcome.{Outcome}
+use Rattle.rules.specs.declared.Next.{Next}
+use Rattle.rules.specs.declared.Next.the-variants.{Nothing}
+use Rattle.rules.specs.declared.Asked.{Asked}
+use Rattle.rules.specs.declared.Activity.{Activity}
+use Rattle.rules.specs.declared.Margin.{Margin}
+use Rattle.rules.specs.declared.Loaded.{Loaded}
+use Rattle.rules.specs.Limits.{lastTick}
+use Rattle.rules.specs.Refusals.{Row, first, numbers, holds, numberOf}
+use Rattle.rules.specs.Table.{tableRows, noTable}
+use Rattle.rules.specs.Model.{Guest, Spare, spare, Model, leftOf, deadlineOf, dueOf, active, guestAt, maskOf, activeCount, tallies}
+use Rattle.rules.specs.Steps.{Portion, onOwn, onSpare, burning, nothing, next, advance}
+use Rattle.rules.specs.Places.{model, packed, freshState, noState}
+use Rattle.rules.specs.Sound.{sound}
+use Rattle.rules.specs.Image.{offsetIn, tableIn, readRows, imageOf, imageLength, writeRows, overwritten}
+use Rattle.rules.specs.Calls.{arriveRows, doneRows, advanceRows, askRows, marginRows, portionOf, Arrived, Finished, Advanced, AskedFor, ActiveTold, MarginTold, Freshened, TableChecked, TableRead, EntriesHanded, ImageChecked, TableWritten, Call, advances, numberGiven, stateAfter, run}
+use Rattle.rules.specs.Borders.{Border, borders, alone, endOfTime}
+
+-- ---- the document's own numbers
+
+-- "Starred ones are proved of the rules themselves, as rows under a single statement."
+abbrev pub BordersHold : Type 0
+BordersHold = map (λ (b : Border). b .computed) borders ≡ map (λ (b : Border). b .expected) borders
+
+-- the state at tick 2^40 in those rows is sound, and is the fresh one of its table after 2^40 ticks
+abbrev pub EndReached : Type 0
+EndReached = (sound endOfTime ≡ true) × (stateAfter (advances lastTick) (freshState (alone 1 1)) ≡ endOfTime)
+
+-- ---- soundness is kept
+
+-- a fresh state of a table that no number refuses is sound
+abbrev pub FreshIsSound : Type 0
+FreshIsSound = (t : Table) → first (tableRows t) ≡ 0 → sound (freshState t) ≡ true
+
+-- every call, accepted or refused, leaves a sound state sound
+abbrev pub SoundKept : Type 0
+SoundKept = (c : Call) (s : State) → sound s ≡ true → sound (stateAfter c s) ≡ true
+
+-- after any calls from a fresh state, refused ones too, no call answers 1
+abbrev pub NeverUnsound : Type 0
+NeverUnsound = (t : Table) → first (tableRows t) ≡ 0 → (cs : List Call) (c : Call) → numberGiven c (run cs (freshState t)) ≡ 1 → ⊥
+
+-- a sound state is its model in places, so that a step on the model says all there is of the state
+abbrev pub PackedModel : Type 0
+PackedModel = (s : State) → sound s ≡ true → packed (model s) ≡ s
+
+-- ---- exactly when listed
+
+-- a number is given if and only if its own condition holds and no smaller one's; one that is not listed is never given
+abbrev pub Exactly : List Row → Type 0
+Exactly rows = (k : ℕ) → (first rows ≡ suc k) ↔ ((holds (suc k) rows ≡ true) × ((j : ℕ) → j < suc k → holds j rows ≡ false))
+
+-- these are the numbers that may be given, each exactly when listed
+pub record Listed (rows : List Row) (may : List ℕ) : Type 0 where
+  pub exactly : Exactly rows
+  pub only : numbers rows ≡ may
+
+-- "Every call on a state may give 1. Making a fresh state gives 10 and 12 to 14 for a bad table; reading gives 8 to 14; writing gives 10,
+-- 12 to 14 and 15."
+pub record ExactlyWhenListed : Type 0 where
+  pub arrive : (s : State) (i : ℕ) → Listed (arriveRows s i) (1 ∷ 2 ∷ 4 ∷ 5 ∷ 6 ∷ [])
+  pub done : (s : State) (i : ℕ) → Listed (doneRows s i) (1 ∷ 2 ∷ 3 ∷ [])
+  pub advance : (s : State) (k : ℕ) → Listed (advanceRows s k) (1 ∷ 7 ∷ [])
+  pub ask : (s : State) → Listed (askRows s) (1 ∷ [])
+  pub margin : (s : State) (i : ℕ) → Listed (marginRows s i) (1 ∷ 2 ∷ [])
+  pub fresh : (t : Table) → Listed (tableRows t) (10 ∷ 12 ∷ 13 ∷ 14 ∷ [])
+  pub read : (image : List ℕ) → Listed (readRows image) (8 ∷ 9 ∷ 10 ∷ 11 ∷ 12 ∷ 13 ∷ 14 ∷ [])
+  pub write : (t : Table) (buffer : List ℕ) → Listed (writeRows t buffer) (10 ∷ 12 ∷ 13 ∷ 14 ∷ 15 ∷ [])
+
+-- ---- what a refusal gives back
+
+-- "The state comes back as it was; a refused table or fresh state is all zeros; lent bytes keep their values; asked-for numbers are 0, and
+-- Ask says nothing to do."
+pub record RefusalGivesBack : Type 0 where
+  pub arrive : (s : State) (i : ℕ) (r : Outcome) → Arrived s i r → 0 < numberOf (r .answer) → r .state ≡ s
+  pub done : (s : State) (i : ℕ) (r : Outcome) → Finished s i r → 0 < numberOf (r .answer) → r .state ≡ s
+  pub advance : (s : State) (k : ℕ) (r : Outcome) → Advanced s k r → 0 < numberOf (r .answer) → r .state ≡ s
+  pub ask : (s : State) (r : Asked) → AskedFor s r → 0 < numberOf (r .answer) → r .next ≡ Nothing
+  pub active : (s : State) (r : Activity) → ActiveTold s r → 0 < numberOf (r .answer) → (r .mask ≡ 0) × (r .count ≡ 0)
+  pub margin : (s : State) (i : ℕ) (r : Margin) → MarginTold s i r → 0 < numberOf (r .answer) → r .ticks ≡ pos 0
+  pub fresh : (t : Table) (r : Outcome) → Freshened t r → 0 < numberOf (r .answer) → r .state ≡ noState
+  pub read : (image : List ℕ) (r : Loaded) → TableRead image r → 0 < numberOf (r .answer) → r .table ≡ noTable
+  pub entries : (image : List ℕ) (start : ℕ) (part : List ℕ) → EntriesHanded image start part → 0 < first (readRows image) → (start ≡ 0) × (part ≡ [])
+  pub write : (t : Table) (buffer : List ℕ) (a : Answer) (after : List ℕ) → TableWritten t buffer a after → 0 < numberOf a → after ≡ buffer
+
+-- ---- demand 2, what a tick uses
+
+-- "The active guest with the smallest d runs; equal deadlines, the lowest number."
+pub record RunsFirst (gs : List Guest) (i : ℕ) : Type 0 where
+  pub place : i < length gs
+  pub is-active : active (guestAt i gs) ≡ true
+  pub smallest : (k : ℕ) → active (guestAt k gs) ≡ true → deadlineOf (guestAt i gs) ≤ deadlineOf (guestAt k gs)
+  pub lowest : (k : ℕ) → k < i → active (guestAt k gs) ≡ true → deadlineOf (guestAt i gs) < deadlineOf (guestAt k gs)
+
+-- "If no guest is active"
+abbrev pub NobodyActive : List Guest → Type 0
+NobodyActive gs = (k : ℕ) → active (guestAt k gs) ≡ false
+
+-- the first spare is this one
+abbrev pub FirstSpare : List Spare → Spare → Type 0
+FirstSpare ss x = (rest : List Spare) × (ss ≡ x ∷ rest)
+
+-- no spare, or the first one's deadline is past d
+abbrev pub NoneBy : ℕ → List Spare → Type 0
+NoneBy d [] = Unit {0}
+NoneBy d (x ∷ ss) = d < dueOf x
+
+-- what each portion says of the guests and the spares, its deadline and span included
+abbrev pub Uses : List Guest → List Spare → Portion → Type 0
+Uses gs ss (onOwn i d span) = RunsFirst gs i × (d ≡ deadlineOf (guestAt i gs)) × (span ≡ leftOf (guestAt i gs)) × NoneBy d ss
+Uses gs ss (onSpare i owner d span) = RunsFirst gs i × FirstSpare ss (spare d owner span) × (d ≤ deadlineOf (guestAt i gs))
+Uses gs ss (burning owner d span) = NobodyActive gs × FirstSpare ss (spare d owner span)
+Uses gs ss nothing = NobodyActive gs × (ss ≡ [])
+
+-- the choice behind the tick and Ask is the right one
+abbrev pub NextUses : Type 0
+NextUses = (m : Model) → Uses (m .guests) (m .spares) (next m)
+
+-- ---- demand 2, "An advance of many ticks ends where that many single ticks end."
+
+-- "k = 0 is accepted and changes nothing."
+abbrev pub AdvanceNothing : Type 0
+AdvanceNothing = (s : State) → stateAfter (advances 0) s ≡ s
+
+-- advance by a + b is advance by a and then by b
+abbrev pub AdvanceInParts : Type 0
+AdvanceInParts =
+    (a b : ℕ) (s : State) → numberGiven (advances (a + b)) s ≡ 0
+    → stateAfter (advances (a + b)) s ≡ stateAfter (advances b) (stateAfter (advances a) s)
+
+-- "All tallies together" grow by the ticks made
+abbrev pub TalliesGrow : Type 0
+TalliesGrow = (k : ℕ) (m : Model) → tallies (advance k m) ≡ tallies m + k
+
+-- "the number of active guests as the count of its ones"
+abbrev pub OnesOfMask : Type 0
+OnesOfMask = (gs : List Guest) → ones (maskOf gs) ≡ activeCount gs
+
+-- ---- images
+
+-- "Reading those bytes gives the same table"
+abbrev pub WrittenIsRead : Type 0
+WrittenIsRead =
+    (t : Table) (buffer : List ℕ) → first (writeRows t buffer) ≡ 0
+    → (first (readRows (take (imageLength t) (overwritten t buffer))) ≡ 0) × (tableIn (take (imageLength t) (overwritten t buffer)) ≡ t)
+
+-- "bytes behind them stay"
+abbrev pub BehindStays : Type 0
+BehindStays =
+    (t : Table) (buffer : List ℕ) → first (writeRows t buffer) ≡ 0
+    → (length (overwritten t buffer) ≡ length buffer) × (drop (imageLength t) (overwritten t buffer) ≡ drop (imageLength t) buffer)
+
+-- "writing what was read from an image with offset 0 gives that image"
+abbrev pub ReadIsWritten : Type 0
+ReadIsWritten = (image : List ℕ) → areBytes image ≡ true → first (readRows image) ≡ 0 → offsetIn image ≡ 0 → imageOf (tableIn image) ≡ image
+
+-- ---- one outcome
+
+-- the number and the values determine an answer
+pub record AnswersDetermined : Type 0 where
+  pub number : (a b : Answer) → numberOf a ≡ numberOf b → a ≡ b
+  pub portion : (x y : Next) → portionOf x ≡ portionOf y → x ≡ y
+
+-- any two outcomes that a call's predicate allows are equal
+pub record OneOutcome : Type 0 where
+  pub arrive : (s : State) (i : ℕ) (x y : Outcome) → Arrived s i x → Arrived s i y → x ≡ y
+  pub done : (s : State) (i : ℕ) (x y : Outcome) → Finished s i x → Finished s i y → x ≡ y
+  pub advance : (s : State) (k : ℕ) (x y : Outcome) → Advanced s k x → Advanced s k y → x ≡ y
+  pub ask : (s : State) (x y : Asked) → AskedFor s x → AskedFor s y → x ≡ y
+  pub active : (s : State) (x y : Activity) → ActiveTold s x → ActiveTold s y → x ≡ y
+  pub margin : (s : State) (i : ℕ) (x y : Margin) → MarginTold s i x → MarginTold s i y → x ≡ y
+  pub fresh : (t : Table) (x y : Outcome) → Freshened t x → Freshened t y → x ≡ y
+  pub check : (t : Table) (x y : Answer) → TableChecked t x → TableChecked t y → x ≡ y
+  pub read : (image : List ℕ) (x y : Loaded) → TableRead image x → TableRead image y → x ≡ y
+  pub entries : (image : List ℕ) (i j : ℕ) (x y : List ℕ) → EntriesHanded image i x → EntriesHanded image j y → (i ≡ j) × (x ≡ y)
+  pub boot : (image : List ℕ) (x y : ℕ) → ImageChecked image x → ImageChecked image y → x ≡ y
+  pub write : (t : Table) (buffer : List ℕ) (a b : Answer) (x y : List ℕ) → TableWritten t buffer a x → TableWritten t buffer b y → (a ≡ b) × (x ≡ y)
