@@ -2,7 +2,7 @@
 use mathlib.Core.Path.{_≡_, refl, ap}
 use mathlib.Core.Bool.{Bool, true}
 use mathlib.Core.List.{List, [], _∷_, _++_, map}
-use Prim.Native.Nat.{ℕ, zero, suc, _+_, _<_}
+use Prim.Native.Nat.{ℕ, zero, suc, _+_, _≤_, _<_}
 use native.Mathlib.Omega.{arith}
 use lib.ListN.{length, getD}
 use Rattle.laws.specs.Lists.{every, total, changed}
@@ -27,6 +27,16 @@ module _ {A : Type 0} where
   all-at none z i h = absurd (omega arith)
   all-at (each p ps) z zero h = p
   all-at (each p ps) z (suc i) h = all-at ps z i (omega arith)
+
+  -- at any index, where it holds of what stands for an element that is not there
+  pub all-get : {P : A → Type 0} {xs : List A} → All P xs → (z : A) → P z → (i : ℕ) → P (getD xs i z)
+  all-get none z h i = h
+  all-get (each p ps) z h zero = p
+  all-get (each p ps) z h (suc i) = all-get ps z h i
+
+  pub all-from : {P : A → Type 0} (z : A) (xs : List A) → ((i : ℕ) → i < length xs → P (getD xs i z)) → All P xs
+  all-from z [] f = none
+  all-from z (x ∷ xs) f = each (f 0 (omega arith)) (all-from z xs (λ i h. f (suc i) (omega arith)))
 
   pub all-map : {P : A → Type 0} (R : A → Type 0) (f : A → A) → ((x : A) → P x → R (f x)) → {xs : List A} → All P xs → All R (map f xs)
   all-map R f g none = none
@@ -70,6 +80,18 @@ module _ {A : Type 0} where
   total-map h f e [] = refl
   total-map h f e (x ∷ xs) = rw (e x, total-map h f e xs)
 
+  pub total-le : (f h : A → ℕ) {xs : List A} → All (λ x. f x ≤ h x) xs → total f xs ≤ total h xs
+  total-le f h none = omega arith
+  total-le f h (each p ps) = omega (arith, total-le f h ps)
+
+  pub total-map-le : (h : A → ℕ) (f : A → A) {xs : List A} → All (λ x. h (f x) ≤ h x) xs → total h (map f xs) ≤ total h xs
+  total-map-le h f none = omega arith
+  total-map-le h f (each p ps) = omega (arith, total-map-le h f ps)
+
+  pub total-none : (f : A → ℕ) (xs : List A) → total f xs ≤ 0 → All (λ x. f x ≤ 0) xs
+  total-none f [] h = none
+  total-none f (x ∷ xs) h = each {x = x} (omega arith) (total-none f xs (omega arith))
+
   pub total-changed : (z : A) (h : A → ℕ) (i : ℕ) (f : A → A) (xs : List A) → i < length xs → total h (changed i f xs) + h (getD xs i z) ≡ total h xs + h (f (getD xs i z))
   total-changed z h i f [] p = absurd (omega arith)
   total-changed z h zero f (x ∷ xs) p = omega arith
@@ -83,6 +105,14 @@ module _ {A : Type 0} where
   at-changed P z (suc i) zero f (x ∷ xs) h p g = p
   at-changed P z (suc i) (suc o) f (x ∷ xs) h p g = at-changed P z i o f xs (omega arith) p g
 
+  -- it is as it was, or changed
+  pub at-either : (P : A → Type 0) (z : A) (i o : ℕ) (f : A → A) (xs : List A) → P (getD xs o z) → P (f (getD xs o z)) → P (getD (changed i f xs) o z)
+  at-either P z i o f [] p q = p
+  at-either P z zero zero f (x ∷ xs) p q = q
+  at-either P z zero (suc o) f (x ∷ xs) p q = p
+  at-either P z (suc i) zero f (x ∷ xs) p q = p
+  at-either P z (suc i) (suc o) f (x ∷ xs) p q = at-either P z i o f xs p q
+
   -- and where each is
   pub at-map : (z : A) (o : ℕ) (f : A → A) (xs : List A) → o < length xs → getD (map f xs) o z ≡ f (getD xs o z)
   at-map z o f [] h = absurd (omega arith)
@@ -93,3 +123,10 @@ module _ {A : Type 0} where
   at-same z i f [] h = absurd (omega arith)
   at-same z zero f (x ∷ xs) h = refl
   at-same z (suc i) f (x ∷ xs) h = at-same z i f xs (omega arith)
+
+  pub at-other : (z : A) (i o : ℕ) (f : A → A) (xs : List A) → (o ≡ i → ⊥) → getD (changed i f xs) o z ≡ getD xs o z
+  at-other z i o f [] n = refl
+  at-other z zero zero f (x ∷ xs) n = absurd (n refl)
+  at-other z zero (suc o) f (x ∷ xs) n = refl
+  at-other z (suc i) zero f (x ∷ xs) n = refl
+  at-other z (suc i) (suc o) f (x ∷ xs) n = at-other z i o f xs (λ e. n (ap suc e))

@@ -32,7 +32,7 @@ packed-model s h = packed-back s h
 named : (s : State) (i : ℕ) → not (sound s) ≡ false → leb (s .table .count) i ≡ false → i < length (model s .guests)
 named s i h k = omega (arith, guests-count s (not-false (sound s) h), leb-false (s .table .count) i k)
 
-may-arrive : (s : State) (i : ℕ) → first (arriveRows s i) ≡ 0 → MayArrive (model s) i
+pub may-arrive : (s : State) (i : ℕ) → first (arriveRows s i) ≡ 0 → MayArrive (model s) i
 unfolding model
 may-arrive s i h =
     let c = clear 0 (arriveRows s i) refl h in

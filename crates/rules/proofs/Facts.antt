@@ -5,20 +5,19 @@ use mathlib.Core.List.{List, [], _∷_, map}
 use Prim.Native.Nat.{ℕ, zero, suc, _≤_, _<_}
 use native.Mathlib.Omega.{arith}
 use lib.Dec.{ltb, leb, eqb}
-use lib.ListN.{length, length-map}
+use lib.ListN.{length}
 use borrow.Author.Tests.{ltb-true, leb-true, eqb-true, lt-ltb, le-leb, eq-eqb}
 use Rattle.laws.specs.Lists.{every}
 use Rattle.laws.proofs.Cases.{and-both, and-intro}
 use Rattle.laws.proofs.Elements.{All, none, each, all-of, every-of, all-both, all-imp}
-use Rattle.laws.proofs.Places.{take-padded}
 use Rattle.rules.specs.declared.State.{State}
-use Rattle.rules.specs.Limits.{guestPlaces, sparePlaces, mostJobs, lastTick, longestFrame, deadlineBound}
-use Rattle.rules.specs.Table.{noEntry, goodTable}
+use Rattle.rules.specs.Limits.{sparePlaces, mostJobs, lastTick, longestFrame, deadlineBound}
+use Rattle.rules.specs.Table.{goodTable}
 use Rattle.rules.specs.Model.{Guest, guest, Spare, spare, Model, budgetOf, deadlineOf, dueOf, ownerOf, capacityOf, active, guestAt, occupied, tallies}
 use Rattle.rules.specs.Places.{model, entryOf, tableOf, packed, unusedZero}
 use Rattle.rules.specs.Sound.{guestInRange, spareInRange, rising, behindOwner, inRange, sound}
 use Rattle.rules.proofs.GoodTable.{Good, Fits, good-table}
-use Rattle.rules.proofs.Packing.{model-packed, packed-unused, model-long, table-model, packed-model}
+use Rattle.rules.proofs.Packing.{table-entries, model-packed, packed-unused, model-long, table-model, packed-model}
 
 -- ---- the facts of a guest and of a spare
 
@@ -100,9 +99,7 @@ served-of H l (guest Q T jobs c d own lent ∷ gs) (each f fs) = each {x = guest
 -- a model's table has as many entries as there are guests
 pub served : (m : Model) → Good (tableOf m) → All Served (m .guests)
 unfolding tableOf
-served m t =
-    served-of (m .frame) (t .frame-high) (m .guests)
-    (rw (take-padded guestPlaces noEntry (length (m .guests)) (map entryOf (m .guests)) (length-map (m .guests) entryOf)) at (t .fit))
+served m t = served-of (m .frame) (t .frame-high) (m .guests) (rw (table-entries m) at (t .fit))
 
 -- ---- a sound state's model, and back
 

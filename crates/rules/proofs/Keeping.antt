@@ -52,7 +52,7 @@ spares-map low high f l gs g vs ps =
 
 -- ---- arrive
 
-entry-join : (now : ℕ) (g : Guest) → entryOf (join now g) ≡ entryOf g
+pub entry-join : (now : ℕ) (g : Guest) → entryOf (join now g) ≡ entryOf g
 entry-join now (guest Q T zero c d own lent) = refl
 entry-join now (guest Q T (suc jobs) c d own lent) = refl
 
@@ -153,7 +153,7 @@ module _ (x : Spare) where
 
 -- ---- done
 
-entry-finish : (g : Guest) → entryOf (finish g) ≡ entryOf g
+pub entry-finish : (g : Guest) → entryOf (finish g) ≡ entryOf g
 entry-finish (guest Q T zero c d own lent) = refl
 entry-finish (guest Q T (suc zero) c d own lent) = refl
 entry-finish (guest Q T (suc (suc jobs)) c d own lent) = refl
@@ -235,7 +235,7 @@ next-names m = uses-names (m .guests) (m .spares) (next m) (next-uses m)
 
 -- ---- one tick
 
-entry-renew : (g : Guest) → entryOf (renew g) ≡ entryOf g
+pub entry-renew : (g : Guest) → entryOf (renew g) ≡ entryOf g
 entry-renew (guest Q T zero c d own lent) = refl
 entry-renew (guest Q T (suc jobs) zero d own lent) = refl
 entry-renew (guest Q T (suc jobs) (suc c) d own lent) = refl

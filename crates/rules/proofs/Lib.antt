@@ -6,10 +6,14 @@ pub mod Facts
 pub mod GoodTable
 pub mod Images
 pub mod Keeping
+pub mod Legal
 pub mod Listed
 pub mod Mask
 pub mod Outcomes
+pub mod Owed
 pub mod Packing
+pub mod Promised
 pub mod Refusing
+pub mod Served
 pub mod Starting
 pub mod Ticking

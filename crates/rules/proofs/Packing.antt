@@ -92,6 +92,11 @@ model-packed m =
     let spares = ap (λ (a : List SparePlace). map spareOf a) xs ∙ place-spares (m .spares) in
     λ i. record { frame = m .frame; now = m .now; guests = guests i; spares = spares i; burned = m .burned; idle = m .idle }
 
+-- a model's table has the entries of its guests
+pub table-entries : (m : Model) → entriesOf (tableOf m) ≡ map entryOf (m .guests)
+unfolding tableOf
+table-entries m = take-padded guestPlaces noEntry (length (m .guests)) (map entryOf (m .guests)) (length-map (m .guests) entryOf)
+
 -- the places behind a model's are not used
 pub packed-unused : (m : Model) → length (m .guests) ≤ guestPlaces → length (m .spares) ≤ sparePlaces → unusedZero (packed m) ≡ true
 unfolding packed tableOf

@@ -26,7 +26,7 @@ use Rattle.rules.proofs.Facts.{Served, GuestGood, Sane, served, range-s
 use Rattle.rules.proofs.Calling.{run-sound, sound-not-one}
 
 -- every changing number is 0
-abbrev Still : Guest → Type 0
+abbrev pub Still : Guest → Type 0
 Still (guest Q T jobs c d own lent) = (jobs ≡ 0) × (c ≡ 0) × (d ≡ 0) × (own ≡ 0) × (lent ≡ 0)
 
 all-still : (es : List Entry) (n k : ℕ) → All Still (zipWith guestOf es (take n (replicate k noGuestPlace)))
@@ -56,15 +56,15 @@ module _ (t : Table) (ok : goodTable t ≡ true) where
       and-intro (unused-replicate guestPlaceIsZero guestPlaces (t .count) noGuestPlace refl)
       (unused-replicate sparePlaceIsZero sparePlaces 0 noSparePlace refl)
 
-  fresh-table : tableOf (model (freshState t)) ≡ t
+  pub fresh-table : tableOf (model (freshState t)) ≡ t
   unfolding freshState
   fresh-table = table-model (freshState t) (good-table t ok) (omega arith) fresh-unused
 
-  fresh-still : All Still (model (freshState t) .guests)
+  pub fresh-still : All Still (model (freshState t) .guests)
   unfolding model freshState
   fresh-still = all-still (entriesOf t) (t .count) guestPlaces
 
-  fresh-sane : Sane (model (freshState t))
+  pub fresh-sane : Sane (model (freshState t))
   unfolding model freshState
   fresh-sane =
       let m = model (freshState t) in

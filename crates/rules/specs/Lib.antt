@@ -9,5 +9,7 @@ pub mod Sound
 pub mod Image
 pub mod Calls
 pub mod Lines
-pub mod Promises
+pub mod Runs
 pub mod Borders
+pub mod Needed
+pub mod Promises

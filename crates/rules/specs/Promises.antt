@@ -1,9 +1,9 @@
 -- Every promise of the rules as a named statement; proofs/ proves each under the same name with small letters.
 use mathlib.Core.Path.{_≡_}
-use mathlib.Core.Bool.{true, false}
+use mathlib.Core.Bool.{Bool, true, false}
 use mathlib.Core.List.{List, [], _∷_, map}
 use mathlib.Core.Logic.{_↔_}
-use Prim.Native.Nat.{ℕ, suc, _+_, _≤_, _<_}
+use Prim.Native.Nat.{ℕ, zero, suc, _+_, _≤_, _<_}
 use lib.Count.{ones}
 use lib.IntN.{pos}
 use lib.ListN.{length, take, drop}
@@ -21,12 +21,14 @@ use Rattle.rules.specs.declared.Loaded.{Loaded}
 use Rattle.rules.specs.Limits.{lastTick}
 use Rattle.rules.specs.Refusals.{Row, first, numbers, holds, numberOf}
 use Rattle.rules.specs.Table.{tableRows, noTable}
-use Rattle.rules.specs.Model.{Guest, Spare, spare, Model, leftOf, deadlineOf, dueOf, active, guestAt, maskOf, activeCount, tallies}
-use Rattle.rules.specs.Steps.{Portion, onOwn, onSpare, burning, nothing, next, advance}
+use Rattle.rules.specs.Model.{guest, budgetOf, ownOf, lentOf, capacityOf, spareAt, Guest, Spare, spare, Model, leftOf, deadlineOf, dueOf, active, guestAt, maskOf, activeCount, tallies}
+use Rattle.rules.specs.Steps.{Portion, onOwn, onSpare, burning, nothing, renewed, next, advance}
 use Rattle.rules.specs.Places.{model, packed, freshState, noState}
 use Rattle.rules.specs.Sound.{sound}
 use Rattle.rules.specs.Image.{offsetIn, tableIn, readRows, imageOf, imageLength, writeRows, overwritten}
-use Rattle.rules.specs.Calls.{arriveRows, doneRows, advanceRows, askRows, marginRows, portionOf, Arrived, Finished, Advanced, AskedFor, ActiveTold, MarginTold, Freshened, TableChecked, TableRead, EntriesHanded, ImageChecked, TableWritten, Call, advances, numberGiven, stateAfter, run}
+use Rattle.rules.specs.Calls.{named, arrives, arriveRows, doneRows, advanceRows, askRows, marginRows, portionOf, Arrived, Finished, Advanced, AskedFor, ActiveTold, MarginTold, Freshened, TableChecked, TableRead, EntriesHanded, ImageChecked, TableWritten, Call, advances, numberGiven, stateAfter, run}
+use Rattle.rules.specs.Runs.{afterAll, events, passed, ownTicks, lentTicks}
+use Rattle.rules.specs.Needed.{line212State, overfullRows, line212Rows}
 use Rattle.rules.specs.Borders.{Border, borders, alone, endOfTime}
 
 -- ---- the document's own numbers
@@ -128,6 +130,97 @@ Uses gs ss nothing = NobodyActive gs × (ss ≡ [])
 -- the choice behind the tick and Ask is the right one
 abbrev pub NextUses : Type 0
 NextUses = (m : Model) → Uses (m .guests) (m .spares) (next m)
+
+-- ---- demand 3, runs
+
+-- a run of calls is the run of its single steps
+abbrev pub RunIsSteps : Type 0
+RunIsSteps = (cs : List Call) (s : State) → model (run cs s) ≡ afterAll (events cs s) (model s)
+
+-- the ticks counted from the steps are what the stored tallies grow by
+abbrev pub CountsAreTallies : Type 0
+CountsAreTallies =
+    (i k : ℕ) (cs : List Call) (s : State)
+    → (ownOf (guestAt i (passed k cs s .guests)) ≡ ownOf (guestAt i (model s .guests)) + ownTicks i k cs s)
+    × (lentOf (guestAt i (passed k cs s .guests)) ≡ lentOf (guestAt i (model s .guests)) + lentTicks i k cs s)
+
+-- ---- demand 3, the choice as an interface
+
+-- who can run: active, with budget left; after step 1 of a tick that is every active guest
+abbrev pub canRun : Guest → Bool
+canRun (guest Q T zero c d own lent) = false
+canRun (guest Q T (suc jobs) zero d own lent) = false
+canRun (guest Q T (suc jobs) (suc c) d own lent) = true
+
+-- "whoever runs can run and has the smallest deadline of all that can", whatever the order among equals
+pub record Earliest (gs : List Guest) (i : ℕ) : Type 0 where
+  pub place : i < length gs
+  pub can : canRun (guestAt i gs) ≡ true
+  pub smallest : (k : ℕ) → canRun (guestAt k gs) ≡ true → deadlineOf (guestAt i gs) ≤ deadlineOf (guestAt k gs)
+
+abbrev pub NobodyCan : List Guest → Type 0
+NobodyCan gs = (k : ℕ) → canRun (guestAt k gs) ≡ false
+
+-- "a spare is taken just where its deadline is no later"
+abbrev pub Fair : List Guest → List Spare → Portion → Type 0
+Fair gs ss (onOwn i d span) = Earliest gs i × NoneBy (deadlineOf (guestAt i gs)) ss
+Fair gs ss (onSpare i owner d span) = Earliest gs i × FirstSpare ss (spare d owner span) × (d ≤ deadlineOf (guestAt i gs))
+Fair gs ss (burning owner d span) = NobodyCan gs × FirstSpare ss (spare d owner span)
+Fair gs ss nothing = NobodyCan gs × (ss ≡ [])
+
+-- the rules' own choice, with its tie order, is fair in every state of every run
+abbrev pub ChoiceIsFair : Type 0
+ChoiceIsFair =
+    (t : Table) → first (tableRows t) ≡ 0 → (cs : List Call) (k : ℕ)
+    → let m = renewed (passed k cs (freshState t)) in Fair (m .guests) (m .spares) (next m)
+
+-- ---- demand 3, the two halves
+
+-- "no capacity above zero has a deadline at or before now": a guest's own, or a spare
+abbrev pub NothingOverdue : Model → Type 0
+NothingOverdue m =
+    ((i : ℕ) → 0 < leftOf (guestAt i (m .guests)) → m .now < deadlineOf (guestAt i (m .guests)))
+    × ((k : ℕ) → 0 < capacityOf (spareAt k (m .spares)) → m .now < dueOf (spareAt k (m .spares)))
+
+-- "From a fresh state, after any calls, refused ones too: no capacity above zero has a deadline at or before now": in every state of
+-- single steps, those inside an advance too
+abbrev pub FirstHalf : Type 0
+FirstHalf = (t : Table) → first (tableRows t) ≡ 0 → (cs : List Call) (k : ℕ) → NothingOverdue (passed k cs (freshState t))
+
+-- a call of the run wakes idle guest i: it is accepted
+pub record Wakes (s : State) (i : ℕ) : Type 0 where
+  pub accepted : numberGiven (arrives i) s ≡ 0
+  pub was-idle : active (named s i) ≡ false
+
+-- guest i is active in the first k + 1 states of single steps
+abbrev pub StaysActive : ℕ → ℕ → List Call → State → Type 0
+StaysActive i k cs s = (j : ℕ) → j ≤ k → active (guestAt i (passed j cs s .guests)) ≡ true
+
+-- "and a guest woken with deadline D has run at least its full budget by tick D, unless it went idle": w is the state that the wake-up
+-- left, D and Q are guest i's there, and k single steps of any later calls reach tick D
+abbrev pub SecondHalf : Type 0
+SecondHalf =
+    (t : Table) → first (tableRows t) ≡ 0 → (earlier cs : List Call) (i : ℕ) → Wakes (run earlier (freshState t)) i
+    → let w = stateAfter (arrives i) (run earlier (freshState t)) in
+    (k : ℕ) → StaysActive i k cs w → passed k cs w .now ≡ deadlineOf (named w i) → budgetOf (named w i) ≤ ownTicks i k cs w
+
+-- and so in every later state, whatever the guest did after tick D
+abbrev pub SecondHalfLater : Type 0
+SecondHalfLater =
+    (t : Table) → first (tableRows t) ≡ 0 → (earlier cs : List Call) (i : ℕ) → Wakes (run earlier (freshState t)) i
+    → let w = stateAfter (arrives i) (run earlier (freshState t)) in
+    (k n : ℕ) → k ≤ n → StaysActive i k cs w → passed k cs w .now ≡ deadlineOf (named w i) → budgetOf (named w i) ≤ ownTicks i n cs w
+
+-- ---- demand 3, its bounds are needed
+
+-- with a share above H a capacity does reach its deadline
+abbrev pub ShareNeeded : Type 0
+ShareNeeded = map (λ (b : Border). b .computed) overfullRows ≡ map (λ (b : Border). b .expected) overfullRows
+
+-- line 212, as a regression: not sound, so every call answers 1; and if it is stepped all the same, the other guest starves
+pub record Line212 : Type 0 where
+  pub refused : (c : Call) → numberGiven c line212State ≡ 1
+  pub starves : map (λ (b : Border). b .computed) line212Rows ≡ map (λ (b : Border). b .expected) line212Rows
 
 -- ---- demand 2, "An advance of many ticks ends where that many single ticks end."
 
