@@ -18,6 +18,10 @@ pub or-neither : (a b : Bool) → a || b ≡ false → (a ≡ false) × (b ≡ f
 or-neither true b h = absurd (false≢true (sym h))
 or-neither false b h = (refl, h)
 
+pub or-right : (a : Bool) {b : Bool} → b ≡ true → a || b ≡ true
+or-right true h = refl
+or-right false h = h
+
 -- a test does not hold and hold
 pub never : {X : Type 0} {b : Bool} → b ≡ true → b ≡ false → X
 never h k = absurd (false≢true (sym k ∙ h))

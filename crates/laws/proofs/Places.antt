@@ -1,11 +1,11 @@
 -- A list in places: what is used comes back, and what is not used is zero.
 use mathlib.Core.Path.{_≡_, refl, ap, sym, _∙_}
 use mathlib.Core.Bool.{Bool, true}
-use mathlib.Core.List.{List, [], _∷_, _++_}
+use mathlib.Core.List.{List, [], _∷_, _++_, map}
 use Prim.Native.Nat.{ℕ, zero, suc, _-_, _≤_}
 use native.Mathlib.Omega.{arith}
 use lib.Dec.{eqb}
-use lib.ListN.{length, take, drop, replicate, length-append, length-replicate, length-drop, take-append-drop}
+use lib.ListN.{length, take, drop, replicate, length-append, length-replicate, length-drop, length-map, take-append-drop}
 use lib.Seq.{take-at, drop-at, length-take-le}
 use borrow.Author.Tests.{eqb-true, eq-eqb}
 use Rattle.laws.specs.Lists.{every, padded, unused}
@@ -59,3 +59,7 @@ module _ {A : Type 0} where
         ∙ ap (λ (l : ℕ). take n xs ++ replicate l z) (sym r)
         ∙ ap (λ (t : List A). take n xs ++ t) (sym (all-equal p z f (drop n xs) (b .1)))
         ∙ take-append-drop n xs
+
+-- the length of an array of structs, from what is known of its machine values
+pub length-mapped : (X Y : Type 0) (f : X → Y) (l : List X) (n : ℕ) → length (map f l) ≡ n → length l ≡ n
+length-mapped X Y f l n e = sym (length-map l f) ∙ e

@@ -1,15 +1,15 @@
 -- What a table has that no number refuses.
 use mathlib.Core.Path.{_≡_, refl}
 use mathlib.Core.Bool.{true, false, _&&_}
-use Prim.Native.Nat.{ℕ, _%_, _≤_, _∣_}
+use Prim.Native.Nat.{ℕ, _%_, _≤_, _<_, _∣_}
 use native.Mathlib.Nat.{le-of-dvd, dvd-of-mod-eq-zero}
 use native.Mathlib.Omega.{arith}
 use lib.Dec.{ltb, leb, eqb}
 use lib.ListN.{length}
 use lib.Seq.{length-take-le}
-use borrow.Author.Tests.{ltb-false, le-ltb, leb-true, eqb-true, not-false}
+use borrow.Author.Tests.{lt-ltb, ltb-false, le-ltb, leb-true, eqb-true, not-false}
 use Rattle.laws.specs.Lists.{every, padded, unused}
-use Rattle.laws.proofs.Cases.{and-both, or-neither}
+use Rattle.laws.proofs.Cases.{and-both, or-neither, or-right}
 use Rattle.laws.proofs.Elements.{All, all-of}
 use Rattle.laws.proofs.Places.{length-places, padded-take}
 use Rattle.rules.specs.declared.Entry.{Entry}
@@ -28,6 +28,13 @@ between least most x h =
 -- and a number between is not outside
 pub not-outside : (least most x : ℕ) → least ≤ x → x ≤ most → outside least most x ≡ false
 not-outside least most x low high = rw (le-ltb x least low, le-ltb most x high)
+
+-- a number below the least or above the most is outside
+pub below : (least most x : ℕ) → x < least → outside least most x ≡ true
+below least most x h = rw (lt-ltb x least h)
+
+pub above : (least most x : ℕ) → most < x → outside least most x ≡ true
+above least most x h = or-right (ltb x least) (lt-ltb most x h)
 
 -- "1 ≤ Q ≤ T and T dividing H", so T is at most H
 pub record Fits (H : ℕ) (e : Entry) : Type 0 where

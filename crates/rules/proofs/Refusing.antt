@@ -32,6 +32,13 @@ pub none-given : (rows : List Row) → Clear rows → first rows ≡ 0
 none-given [] c = refl
 none-given (b gives n ∷ rows) c = rw (c .0) (none-given rows (c .1))
 
+-- the number of a row whose condition holds, and of a later one where it does not
+pub given-here : (b : Bool) (n : ℕ) (rows : List Row) → b ≡ true → n ≡ first (b gives n ∷ rows)
+given-here b n rows h = rw h
+
+pub given-later : (b : Bool) (n : ℕ) (rows : List Row) {m : ℕ} → b ≡ false → m ≡ first rows → m ≡ first (b gives n ∷ rows)
+given-later b n rows h e = rw h e
+
 -- what clears all rows clears those in front
 pub clear-front : (rows more : List Row) → Clear (rows ++ more) → Clear rows
 clear-front [] more c = tt
