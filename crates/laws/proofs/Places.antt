@@ -2,11 +2,11 @@
 use mathlib.Core.Path.{_≡_, refl, ap, sym, _∙_}
 use mathlib.Core.Bool.{Bool, true}
 use mathlib.Core.List.{List, [], _∷_, _++_, map}
-use Prim.Native.Nat.{ℕ, zero, suc, _-_, _≤_}
+use Prim.Native.Nat.{ℕ, zero, suc, _-_, _≤_, _<_}
 use native.Mathlib.Omega.{arith}
 use lib.Dec.{eqb}
-use lib.ListN.{length, take, drop, replicate, length-append, length-replicate, length-drop, length-map, take-append-drop}
-use lib.Seq.{take-at, drop-at, length-take-le}
+use lib.ListN.{length, take, drop, set, replicate, length-append, length-replicate, length-drop, length-map, take-append-drop}
+use lib.Seq.{take-at, drop-at, set-at, append-snoc, length-take-le}
 use borrow.Author.Tests.{eqb-true, eq-eqb}
 use Rattle.laws.specs.Lists.{every, padded, unused}
 use Rattle.laws.proofs.Cases.{and-both, and-intro}
@@ -63,3 +63,11 @@ module _ {A : Type 0} where
 -- the length of an array of structs, from what is known of its machine values
 pub length-mapped : (X Y : Type 0) (f : X → Y) (l : List X) (n : ℕ) → length (map f l) ≡ n → length l ≡ n
 length-mapped X Y f l n e = sym (length-map l f) ∙ e
+
+-- the next place is taken
+pub set-padded : {A : Type 0} (places : ℕ) (z : A) (n : ℕ) (xs : List A) (v : A) → length xs ≡ n → n < places → set (padded places z xs) n v ≡ padded places z (xs ++ (v ∷ []))
+set-padded {A} places z n xs v e h =
+    let k = places - suc n in
+    let left : places - length xs ≡ suc k = omega arith in
+    let longer : length (xs ++ (v ∷ [])) ≡ suc n = length-append xs (v ∷ []) ∙ omega arith in
+    rw (left, longer) (set-at xs z (replicate k z) v n e ∙ sym (append-snoc xs v (replicate k z)))

@@ -16,8 +16,10 @@ use Rattle.laws.proofs.Elements.{All, none, each}
 use Rattle.laws.proofs.Parts.{parts-join, bytes-split}
 use Rattle.rules.specs.declared.Entry.{Entry}
 use Rattle.rules.specs.declared.Table.{Table}
+use Rattle.rules.specs.declared.Answer.{Answer}
+use Rattle.rules.specs.declared.Loaded.{Loaded}
 use Rattle.rules.specs.Limits.{guestPlaces, shortestImage, longestImage}
-use Rattle.rules.specs.Refusals.{_gives_, first}
+use Rattle.rules.specs.Refusals.{_gives_, first, numberOf}
 use Rattle.rules.specs.Table.{entriesOf, noEntry, tableRows}
 use Rattle.rules.specs.Image.{
   entryBytes,
@@ -37,12 +39,14 @@ use Rattle.rules.specs.Image.{
   bytesOf,
   entryImage,
   entriesImage,
+  trailerImage,
   imageOf,
   imageLength,
   writeRows,
   overwritten,
 }
-use Rattle.rules.specs.Promises.{WrittenIsRead, BehindStays, ReadIsWritten}
+use Rattle.rules.specs.Calls.{TableRead, TableWritten}
+use Rattle.rules.specs.Promises.{WrittenIsRead, BehindStays, ReadIsWritten, RoundTrip}
 use Rattle.rules.proofs.Refusing.{Clear, clear, clear-front, none-given}
 use Rattle.rules.proofs.GoodTable.{between, not-outside, Fits, Good, good}
 
@@ -84,7 +88,7 @@ entries-image-long [] = refl
 entries-image-long (e ∷ es) = simp length-append (omega (arith, entries-image-long es))
 
 -- n entries are read
-entries-in-long : (n : ℕ) (bytes : List ℕ) → length (entriesIn n bytes) ≡ n
+pub entries-in-long : (n : ℕ) (bytes : List ℕ) → length (entriesIn n bytes) ≡ n
 entries-in-long zero bytes = refl
 entries-in-long (suc n) bytes = ap suc (entries-in-long n (drop 8 bytes))
 
@@ -107,13 +111,9 @@ entries-kept (suc n) bytes h long =
 
 -- ---- what was read is written as it was
 
--- a trailer's bytes
-abbrev trailer : ℕ → ℕ → List ℕ
-trailer H n = bytesOf 4 H ++ bytesOf 4 0 ++ bytesOf 2 n ++ bytesOf 2 1
-
 -- an image's last 12 bytes are those of the trailer that they read as
 trailer-kept : (image : List ℕ) → areBytes image ≡ true → 12 ≤ length image → offsetIn image ≡ 0 → editionIn image ≡ 1
-    → trailer (frameIn image) (countIn image) ≡ drop (trailerAt image) image
+    → trailerImage (frameIn image) (countIn image) ≡ drop (trailerAt image) image
 trailer-kept image h long offset edition =
     let at = trailerAt image in
     let front = bytes-field image h 4 at (omega arith) in
@@ -122,13 +122,13 @@ trailer-kept image h long offset edition =
     field-joins image h at 10 2 (omega arith) count-joins (sym edition) ∙ take-all 12 (drop at image) (rw length-drop (omega arith))
 
 -- what an image that is not refused has
-record Readable (image : List ℕ) : Type 0 where
-  length-low : shortestImage ≤ length image
-  edition-known : editionIn image ≡ 1
-  whole : offsetIn image + entryBytes * countIn image + trailerBytes ≡ length image
+pub record Readable (image : List ℕ) : Type 0 where
+  pub length-low : shortestImage ≤ length image
+  pub edition-known : editionIn image ≡ 1
+  pub whole : offsetIn image + entryBytes * countIn image + trailerBytes ≡ length image
 
 -- an image that gives no number has that
-readable : (image : List ℕ) → first (readRows image) ≡ 0 → Readable image
+pub readable : (image : List ℕ) → first (readRows image) ≡ 0 → Readable image
 readable image h =
     let p = clear 0 (readRows image) refl h in
     let size = offsetIn image + entryBytes * countIn image + trailerBytes in
@@ -162,7 +162,7 @@ field-behind front rest width k at e = rw (e, drop-append-add)
 
 module _ (t : Table) (g : Good t) where
   -- "8n" bytes of entries
-  part-long : length (entriesImage (entriesOf t)) ≡ 8 * t .count
+  pub part-long : length (entriesImage (entriesOf t)) ≡ 8 * t .count
   part-long = entries-image-long (entriesOf t) ∙ rw (g .long)
 
   -- "8n + 12 bytes"
@@ -171,10 +171,10 @@ module _ (t : Table) (g : Good t) where
   image-long = simp (length-append, part-long)
 
   -- a field of the trailer
-  trailer-field : (width k at : ℕ) → at ≡ trailerAt (imageOf t) + k → field width at (imageOf t) ≡ field width k (trailer (t .frame) (t .count))
+  trailer-field : (width k at : ℕ) → at ≡ trailerAt (imageOf t) + k → field width at (imageOf t) ≡ field width k (trailerImage (t .frame) (t .count))
   unfolding imageOf
   trailer-field width k at e =
-      field-behind (entriesImage (entriesOf t)) (trailer (t .frame) (t .count)) width k at (omega (arith, image-long, part-long))
+      field-behind (entriesImage (entriesOf t)) (trailerImage (t .frame) (t .count)) width k at (omega (arith, image-long, part-long))
 
   -- each field of the trailer reads as what was written
   frame-back : frameIn (imageOf t) ≡ t .frame
@@ -193,7 +193,7 @@ module _ (t : Table) (g : Good t) where
   part-back : entriesPart (imageOf t) ≡ entriesImage (entriesOf t)
   unfolding imageOf
   part-back =
-      rw (offset-back, count-back) (take-at (entriesImage (entriesOf t)) (trailer (t .frame) (t .count)) (8 * t .count) part-long)
+      rw (offset-back, count-back) (take-at (entriesImage (entriesOf t)) (trailerImage (t .frame) (t .count)) (8 * t .count) part-long)
 
   -- the entries read as they were
   entries-same : entriesIn (t .count) (entriesImage (entriesOf t)) ≡ entriesOf t
@@ -229,3 +229,25 @@ behind-stays t buffer h =
     let g = good t (none-given (tableRows t) (clear-front (tableRows t) (ltb (length buffer) (imageLength t) gives 15 ∷ []) c)) in
     let room = ltb-false (length buffer) (imageLength t) (c .1 .1 .1 .1 .0) in
     (length-append (imageOf t) _ ∙ omega (arith, image-long t g, length-drop (imageLength t) buffer), drop-at (imageOf t) _ (imageLength t) (image-long t g))
+
+-- ---- of the calls
+
+pub round-trip : RoundTrip
+round-trip = record { written-read = there; read-written = back }
+  where
+    there : (t : Table) (buffer after : List ℕ) (a : Answer) (l : Loaded) → TableWritten t buffer a after → numberOf a ≡ 0 → TableRead (take (imageLength t) after) l → (numberOf (l .answer) ≡ 0) × (l .table ≡ t)
+    there t buffer after a l w h r =
+        let none = sym (w .answer) ∙ h in
+        let content : after ≡ overwritten t buffer = w .content ∙ rw none in
+        let read = written-is-read t buffer none in
+        let number : first (readRows (take (imageLength t) after)) ≡ 0 = rw content (read .0) in
+        let table : tableIn (take (imageLength t) after) ≡ t = rw content (read .1) in
+        (r .answer ∙ number, r .table ∙ rw number table)
+
+    back : (image buffer after : List ℕ) (l : Loaded) (a : Answer) → areBytes image ≡ true → TableRead image l → numberOf (l .answer) ≡ 0 → offsetIn image ≡ 0 → TableWritten (l .table) buffer a after → numberOf a ≡ 0 → take (length image) after ≡ image
+    back image buffer after l a bytes r h offset w k =
+        let number = sym (r .answer) ∙ h in
+        let table : l .table ≡ tableIn image = r .table ∙ rw number in
+        let same : imageOf (l .table) ≡ image = ap imageOf table ∙ read-is-written image bytes number offset in
+        let content : after ≡ overwritten (l .table) buffer = w .content ∙ rw (sym (w .answer) ∙ k) in
+        rw (content, same) (take-at image _ (length image) refl)

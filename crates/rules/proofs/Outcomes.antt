@@ -5,6 +5,7 @@ use Prim.Native.Nat.{ℕ, zero, suc, _<_}
 use native.Mathlib.Omega.{arith}
 use lib.IntN.{pos}
 use lib.ListN.{getD}
+use Rattle.laws.proofs.Cases.{by-leb}
 use Rattle.rules.specs.declared.Refusal.{Refusal}
 use Rattle.rules.specs.declared.Refusal.the-variants.{NotSound, NoSuchGuest, GuestIdle, JobsFull, NoRoom, DeadlineTooFar, EndOfTime, ImageLength, UnknownEdition, GuestCount, WrongOffset, FrameRange, BadGuest, ShareTooLarge, BufferShort, Malformed}
 use Rattle.rules.specs.declared.Answer.{Answer}
@@ -14,7 +15,7 @@ use Rattle.rules.specs.declared.State.{State}
 use Rattle.rules.specs.declared.Source.the-variants.{Own, SpareOf}
 use Rattle.rules.specs.declared.Next.{Next}
 use Rattle.rules.specs.declared.Next.the-variants.{Run, Burn, Nothing}
-use Rattle.rules.specs.Refusals.{Row, first, numberOf}
+use Rattle.rules.specs.Refusals.{Row, first, refusalNumber, numberOf}
 use Rattle.rules.specs.Table.{noTable}
 use Rattle.rules.specs.Model.{Model}
 use Rattle.rules.specs.Places.{noState}
@@ -130,14 +131,22 @@ one-outcome =
           let table = p .table ∙ sym (q .table) in
           λ i. record { answer = answer i; table = table i };
       entries = λ image i j x y p q. (p .place ∙ sym (q .place), p .bytes ∙ sym (q .bytes));
+      number = λ a x y p q. p .answer ∙ sym (q .answer);
       boot = λ image x y p q. p .answer ∙ sym (q .answer);
       write = λ t buffer a b x y p q. (answers _ a b (p .answer) (q .answer), p .content ∙ sym (q .content));
     }
 
 -- ---- what a refusal gives back
 
--- a number above 0 is a refusal's
-kept-back : {A : Type 0} (n : ℕ) (x z : A) → 0 < n → kept n x z ≡ z
+-- a refusal's number is above 0
+pub refusal-counts : (r : Refusal) → 0 < refusalNumber r
+refusal-counts r = by-leb (λ t. 0 < refusalNumber r) 1 (refusalNumber r) (λ h. h) (λ h. absurd (apart (answer-same (Refused r) Went (omega arith))))
+  where
+    apart : Refused r ≡ Went → ⊥
+    apart e = let z : _≡_ {A = ℕ} 0 1 = cc in omega arith
+
+-- and a number above 0 is a refusal's
+pub kept-back : {A : Type 0} (n : ℕ) (x z : A) → 0 < n → kept n x z ≡ z
 kept-back zero x z h = absurd (omega arith)
 kept-back (suc n) x z h = refl
 

@@ -147,6 +147,10 @@ pub record EntriesHanded (image : List ℕ) (start : ℕ) (part : List ℕ) : Ty
   pub place : start ≡ kept (first (readRows image)) (offsetIn image) 0
   pub bytes : part ≡ kept (first (readRows image)) (entriesPart image) []
 
+-- an answer as a number, for those who have no enum
+pub record NumberTold (a : Answer) (number : ℕ) : Type 0 where
+  pub answer : number ≡ numberOf a
+
 -- "The boot code .. passes the image bytes and gets back 0 or the refusal number."
 pub record ImageChecked (image : List ℕ) (number : ℕ) : Type 0 where
   pub answer : number ≡ first (readRows image)

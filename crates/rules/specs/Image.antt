@@ -97,9 +97,13 @@ abbrev pub entriesImage : List Entry → List ℕ
 entriesImage [] = []
 entriesImage (e ∷ es) = entryImage e ++ entriesImage es
 
+-- "H (4), offset .. (4), n (2), edition (2)", with offset 0 and edition 1
+abbrev pub trailerImage : ℕ → ℕ → List ℕ
+trailerImage H n = bytesOf 4 H ++ bytesOf 4 0 ++ bytesOf 2 n ++ bytesOf 2 1
+
 -- "8n + 12 bytes .. with offset 0"
 unfoldable pub imageOf : Table → List ℕ
-imageOf t = entriesImage (entriesOf t) ++ (bytesOf 4 (t .frame) ++ bytesOf 4 0 ++ bytesOf 2 (t .count) ++ bytesOf 2 1)
+imageOf t = entriesImage (entriesOf t) ++ trailerImage (t .frame) (t .count)
 
 -- "8n + 12"
 abbrev pub imageLength : Table → ℕ

@@ -26,7 +26,7 @@ use Rattle.rules.specs.Steps.{Portion, onOwn, onSpare, burning, nothing,
 use Rattle.rules.specs.Places.{model, packed, freshState, noState}
 use Rattle.rules.specs.Sound.{sound}
 use Rattle.rules.specs.Image.{offsetIn, tableIn, readRows, imageOf, imageLength, writeRows, overwritten}
-use Rattle.rules.specs.Calls.{named, arrives, arriveRows, doneRows, advanceRows, askRows, marginRows, portionOf, Arrived, Finished, Advanced, AskedFor, ActiveTold, MarginTold, Freshened, TableChecked, TableRead, EntriesHanded, ImageChecked, TableWritten, Call, advances, numberGiven, stateAfter, run}
+use Rattle.rules.specs.Calls.{named, arrives, arriveRows, doneRows, advanceRows, askRows, marginRows, portionOf, Arrived, Finished, Advanced, AskedFor, ActiveTold, MarginTold, Freshened, TableChecked, TableRead, EntriesHanded, NumberTold, ImageChecked, TableWritten, Call, advances, numberGiven, stateAfter, run}
 use Rattle.rules.specs.Runs.{afterAll, events, passed, ownTicks, lentTicks}
 use Rattle.rules.specs.Needed.{line212State, overfullRows, line212Rows}
 use Rattle.rules.specs.Borders.{Border, borders, alone, endOfTime}
@@ -260,6 +260,16 @@ BehindStays =
 abbrev pub ReadIsWritten : Type 0
 ReadIsWritten = (image : List ℕ) → areBytes image ≡ true → first (readRows image) ≡ 0 → offsetIn image ≡ 0 → imageOf (tableIn image) ≡ image
 
+-- the same of the calls: what `write` left at the front of a buffer, `read` answers as the table; what `read` answered of an image with
+-- offset 0, `write` gives back byte by byte
+pub record RoundTrip : Type 0 where
+  pub written-read :
+      (t : Table) (buffer after : List ℕ) (a : Answer) (l : Loaded) → TableWritten t buffer a after → numberOf a ≡ 0
+      → TableRead (take (imageLength t) after) l → (numberOf (l .answer) ≡ 0) × (l .table ≡ t)
+  pub read-written :
+      (image buffer after : List ℕ) (l : Loaded) (a : Answer) → areBytes image ≡ true → TableRead image l → numberOf (l .answer) ≡ 0
+      → offsetIn image ≡ 0 → TableWritten (l .table) buffer a after → numberOf a ≡ 0 → take (length image) after ≡ image
+
 -- ---- one outcome
 
 -- the number and the values determine an answer
@@ -279,5 +289,6 @@ pub record OneOutcome : Type 0 where
   pub check : (t : Table) (x y : Answer) → TableChecked t x → TableChecked t y → x ≡ y
   pub read : (image : List ℕ) (x y : Loaded) → TableRead image x → TableRead image y → x ≡ y
   pub entries : (image : List ℕ) (i j : ℕ) (x y : List ℕ) → EntriesHanded image i x → EntriesHanded image j y → (i ≡ j) × (x ≡ y)
+  pub number : (a : Answer) (x y : ℕ) → NumberTold a x → NumberTold a y → x ≡ y
   pub boot : (image : List ℕ) (x y : ℕ) → ImageChecked image x → ImageChecked image y → x ≡ y
   pub write : (t : Table) (buffer : List ℕ) (a b : Answer) (x y : List ℕ) → TableWritten t buffer a x → TableWritten t buffer b y → (a ≡ b) × (x ≡ y)
