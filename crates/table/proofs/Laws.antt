@@ -1,11 +1,11 @@
 -- What an entry's test shows, and each answer of the check.
-use mathlib.Core.Path.{_≡_, refl, sym, _∙_}
+use mathlib.Core.Path.{_≡_, refl, sym}
 use mathlib.Core.Bool.{Bool, true, false, not, _&&_, and-false}
-use mathlib.Core.List.{List, [], _∷_}
-use Prim.Native.Nat.{ℕ, _*_, _/_, _%_, _≤_, _<_}
+use mathlib.Core.List.{[], _∷_}
+use Prim.Native.Nat.{ℕ, _/_, _≤_, _<_}
 use native.Mathlib.Nat.{le-trans, mul-le-mul-right, mul-div-le}
 use native.Mathlib.Omega.{arith}
-use lib.Dec.{ltb, leb, eqb}
+use lib.Dec.{ltb, leb}
 use lib.ListN.{length, drop}
 use borrow.Author.Tests.{leb-true, lt-leb, lt-ltb, le-ltb, eq-eqb}
 use Rattle.laws.specs.Lists.{every, unused}
@@ -13,7 +13,7 @@ use Rattle.laws.proofs.Cases.{and-both, and-intro, by-leb}
 use Rattle.rules.specs.declared.Entry.{Entry}
 use Rattle.rules.specs.declared.Table.{Table}
 use Rattle.rules.specs.Limits.{guestPlaces, longestFrame}
-use Rattle.rules.specs.Refusals.{Row, _gives_, first, outside}
+use Rattle.rules.specs.Refusals.{_gives_, first, outside}
 use Rattle.rules.specs.Table.{divides, fitsFrame, shareOf, entriesOf, sharesOf, entryIsZero, rangeRows, tableRows}
 use Rattle.rules.proofs.Refusing.{given-here, given-later}
 use Rattle.rules.proofs.GoodTable.{not-outside}

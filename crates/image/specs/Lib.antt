@@ -1,0 +1,4 @@
+-- What the readers of an image answer.
+pub mod Numbers
+pub mod Loading
+pub mod Handing
