@@ -1,0 +1,18 @@
+//! Tells the linker where libboot.a is: in LOMVADRIC_ARCHIVES (seen from this folder), or where `rt staticlib` writes it.
+
+use std::env;
+use std::path::Path;
+
+fn main() {
+    let named =
+        env::var("LOMVADRIC_ARCHIVES").unwrap_or_else(|_| "../target/staticlib".to_string());
+    let folder = Path::new(env!("CARGO_MANIFEST_DIR")).join(named);
+    println!("cargo:rerun-if-env-changed=LOMVADRIC_ARCHIVES");
+    // A new archive must be linked again, though no source has changed.
+    println!(
+        "cargo:rerun-if-changed={}",
+        folder.join("libboot.a").display()
+    );
+    println!("cargo:rustc-link-search=native={}", folder.display());
+    println!("cargo:rustc-link-lib=static=boot");
+}
