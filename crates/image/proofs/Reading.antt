@@ -161,11 +161,11 @@ table-whole image t w entries e =
 
 -- ---- the table's own check
 
-pub tested-refused : (table : Table) (a : Answer) (r : Refusal) (l : Loaded) → numberOf a ≡ first (tableRows table) → a ≡ Refused r → l .answer ≡ Refused r → l .table ≡ noTable → Tested table l
-tested-refused table a r l e h answer gone =
+pub tested-refused : (table none : Table) (a : Answer) (r : Refusal) → numberOf a ≡ first (tableRows table) → a ≡ Refused r → none ≡ noTable → Tested table (record { answer = a; table = none })
+tested-refused table none a r e h gone =
     let number : first (tableRows table) ≡ refusalNumber r = sym e ∙ ap numberOf h in
     record {
-      answer = ap numberOf answer ∙ sym number;
+      answer = e;
       table-kept = gone ∙ sym (kept-back (first (tableRows table)) table noTable (rw number (refusal-counts r)));
     }
 

@@ -87,9 +87,13 @@ fn refused(r: Refusal) -> Loaded
 fn checked(table: Table) -> Loaded
     ensures { λ l. ⌜ Tested table l ⌝ }
 {
+    let none = no_table();
     let answer = table::check(table);
     match answer {
-        Answer::Refused(r) => refused(r),
+        Answer::Refused(_) => Loaded {
+            answer,
+            table: none,
+        },
         Answer::Went => Loaded { answer, table },
     }
 }
