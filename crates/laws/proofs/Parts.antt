@@ -1,12 +1,13 @@
--- Parts of a list that lie side by side, and of a list of bytes; stores one behind the other.
+-- Parts of a list that lie side by side, and of a list of bytes; stores one behind the other; elements that move to other places.
 use mathlib.Core.Path.{_≡_, refl, sym, ap, _∙_}
 use mathlib.Core.Bool.{true, _&&_, and-assoc}
 use mathlib.Core.List.{List, [], _∷_, _++_}
-use Prim.Native.Nat.{ℕ, suc, _+_, _≤_}
+use Prim.Native.Nat.{ℕ, zero, suc, _+_, _-_, _≤_, _<_}
+use native.Mathlib.Nat.{sub-self, sub-zero, zero-sub, suc-sub-suc}
 use native.Mathlib.Omega.{arith}
-use lib.ListN.{length, set, take, drop, take-append-drop}
+use lib.ListN.{length, set, getD, take, drop, length-drop, take-append-drop}
 use lib.Pow.{areBytes}
-use lib.Seq.{take-add, drop-drop, sets, sets-eq}
+use lib.Seq.{take-add, take-nil, drop-drop, getD-drop, sets, sets-eq, slice, paste, paste-zero, paste-suc}
 use Rattle.laws.proofs.Cases.{and-both}
 
 -- two parts side by side are one part
@@ -38,3 +39,34 @@ module _ {A : Type 0} where
   -- a run of stores at the front, and what stays behind it
   pub stored-front : (l vs : List A) (n : ℕ) → length vs ≡ n → n ≤ length l → sets l 0 vs ≡ vs ++ drop n l
   stored-front l vs n e h = let end : 0 + length vs ≡ n = omega arith in sets-eq vs l 0 (omega arith) ∙ rw end
+
+-- ---- elements that move
+
+module _ {A : Type 0} where
+  -- a part by its length, and by its end
+  pub part-slice : (from to : ℕ) (l : List A) → take (to - from) (drop from l) ≡ slice from to l
+  part-slice zero to l = rw (sub-zero to)
+  part-slice (suc from) zero l = rw (zero-sub (suc from))
+  part-slice (suc from) (suc to) [] = take-nil (suc to - suc from)
+  part-slice (suc from) (suc to) (x ∷ l) = rw (suc-sub-suc to from) (part-slice from to l)
+
+  -- t is d, but the elements of l with an index from `from` up to i stand there from `to` on
+  pub record Moved (l d : List A) (from to i : ℕ) (t : List A) : Type 0 where
+    pub low : from ≤ i
+    pub so : t ≡ paste d to (drop from l) (i - from)
+
+  pub moved-start : (l d : List A) (from to : ℕ) → Moved l d from to from d
+  moved-start l d from to = record { low = omega arith; so = rw (sub-self from) (paste-zero d to (drop from l)) }
+
+  pub moved-more : {l d t : List A} {from to i : ℕ} → Moved l d from to i t → (z : A) (at : ℕ) → at + from ≡ to + i → i < length l → at < length d
+      → Moved l d from to (i + 1) (set t at (getD l i z))
+  moved-more {l} {d} {t} {from} {to} {i} m z at e hi ha =
+      let j = i - from in
+      let step : i + 1 - from ≡ suc j = omega (arith, m .low) in
+      let place : at ≡ to + j = omega (arith, m .low) in
+      let index : i ≡ from + j = omega (arith, m .low) in
+      let element : getD l i z ≡ getD (drop from l) j z = ap (λ (k : ℕ). getD l k z) index ∙ sym (getD-drop from l j z) in
+      record {
+        low = omega (arith, m .low);
+        so = rw (step, m .so, element, place) (paste-suc d to (drop from l) j z (omega arith) (omega (arith, length-drop from l)));
+      }

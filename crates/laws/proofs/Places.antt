@@ -1,15 +1,18 @@
--- A list in places: what is used comes back, and what is not used is zero.
+-- A list in places: what is used comes back, what is not used is zero, and how one place more or fewer is used.
 use mathlib.Core.Path.{_≡_, refl, ap, sym, _∙_}
 use mathlib.Core.Bool.{Bool, true}
 use mathlib.Core.List.{List, [], _∷_, _++_, map}
-use Prim.Native.Nat.{ℕ, zero, suc, _-_, _≤_, _<_}
+use Prim.Native.Nat.{ℕ, zero, suc, _+_, _-_, _≤_, _<_}
+use native.Mathlib.Nat.{zero-add}
+use native.Mathlib.Numerals.{add-one}
 use native.Mathlib.Omega.{arith}
 use lib.Dec.{eqb}
-use lib.ListN.{length, take, drop, set, replicate, length-append, length-replicate, length-drop, length-map, take-append-drop}
-use lib.Seq.{take-at, drop-at, set-at, append-snoc, length-take-le}
+use lib.ListN.{length, getD, take, drop, set, replicate, length-append, length-replicate, length-drop, length-map, take-append-drop}
+use lib.Seq.{take-at, take-suc-set, drop-at, drop-cons, drop-drop, drop-set-lt, set-at, append-snoc, length-take-le, slice, length-slice}
 use borrow.Author.Tests.{eqb-true, eq-eqb}
 use Rattle.laws.specs.Lists.{every, padded, unused}
 use Rattle.laws.proofs.Cases.{and-both, and-intro}
+use Rattle.laws.proofs.Parts.{part-slice, Moved}
 
 module _ {A : Type 0} where
   every-replicate : (p : A → Bool) (n : ℕ) (z : A) → p z ≡ true → every p (replicate n z) ≡ true
@@ -50,15 +53,48 @@ module _ {A : Type 0} where
     pub length-places : length xs ≡ places
     length-places = eqb-true (length xs) places (and-both (eqb (length xs) places) (every p (drop n xs)) h .0)
 
+    -- each place behind the first n holds z
+    rest : drop n xs ≡ replicate (places - n) z
+    rest =
+        let b = and-both (eqb (length xs) places) (every p (drop n xs)) h in
+        all-equal p z f (drop n xs) (b .1)
+        ∙ ap (λ (l : ℕ). replicate l z) (length-drop n xs ∙ ap (λ (l : ℕ). l - n) length-places)
+
     pub padded-take : n ≤ places → padded places z (take n xs) ≡ xs
     padded-take k =
-        let b = and-both (eqb (length xs) places) (every p (drop n xs)) h in
         let e : length (take n xs) ≡ n = length-take-le n xs (omega (arith, length-places)) in
-        let r : length (drop n xs) ≡ places - n = length-drop n xs ∙ ap (λ (l : ℕ). l - n) length-places in
-        ap (λ (l : ℕ). take n xs ++ replicate (places - l) z) e
-        ∙ ap (λ (l : ℕ). take n xs ++ replicate l z) (sym r)
-        ∙ ap (λ (t : List A). take n xs ++ t) (sym (all-equal p z f (drop n xs) (b .1)))
-        ∙ take-append-drop n xs
+        rw (e, ← rest) (take-append-drop n xs)
+
+    -- one place more is used: x stands at `at`, and what stood from there on is moved one place back
+    module _ (at : ℕ) (x : A) (low : at ≤ n) (room : n < places) where
+      longer : length (take at xs ++ (x ∷ slice at n xs)) ≡ suc n
+      longer =
+          let front : length (take at xs) ≡ at = length-take-le at xs (omega (arith, length-places)) in
+          let back : length (slice at n xs) ≡ n - at = length-slice at n xs (omega (arith, length-places)) in
+          length-append (take at xs) (x ∷ slice at n xs) ∙ omega arith
+
+      behind : drop (at + 1 + (n - at)) (set xs at x) ≡ replicate (places - suc n) z
+      behind =
+          let next : at + 1 + (n - at) ≡ n + 1 = omega arith in
+          let more : places - n ≡ suc (places - suc n) = omega arith in
+          rw (next, drop-set-lt (n + 1) xs at x (omega arith), ← drop-drop 1 n xs, rest, more)
+
+      pub moved-back : {i : ℕ} {t : List A} → Moved xs (set xs at x) at (at + 1) i t → i ≡ n → t ≡ padded places z (take at xs ++ (x ∷ slice at n xs))
+      moved-back {i} {t} m e =
+          let front : take (at + 1) (set xs at x) ≡ take at xs ++ (x ∷ []) =
+          rw (add-one at) (take-suc-set xs at x (omega (arith, length-places))) in
+          m .so ∙ rw (e, front, part-slice at n xs, behind, longer, append-snoc)
+
+    -- one place fewer is used: all but the first are moved one place forward, and the last place is cleared
+    pub moved-forward : {i : ℕ} {t : List A} → Moved xs xs 1 0 i t → i ≡ n → (last : ℕ) → last + 1 ≡ n → n ≤ places
+        → set t last z ≡ padded places z (drop 1 (take n xs))
+    moved-forward {i} {t} m e last end k =
+        let next : suc last ≡ n = omega arith in
+        let fewer : n - 1 ≡ last = omega arith in
+        let shorter : length (slice 1 n xs) ≡ last = length-slice 1 n xs (omega (arith, length-places)) ∙ fewer in
+        let more : places - last ≡ suc (places - n) = omega arith in
+        let tail : drop last xs ≡ getD xs last z ∷ replicate (places - n) z = drop-cons xs last z (omega (arith, length-places)) ∙ rw (next, rest) in
+        rw (m .so, e, part-slice 1 n xs, fewer, zero-add last, shorter, more, tail) (set-at (slice 1 n xs) (getD xs last z) (replicate (places - n) z) z last shorter)
 
 -- the length of an array of structs, from what is known of its machine values
 pub length-mapped : (X Y : Type 0) (f : X → Y) (l : List X) (n : ℕ) → length (map f l) ≡ n → length l ≡ n

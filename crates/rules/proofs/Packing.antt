@@ -2,10 +2,10 @@
 use mathlib.Core.Path.{_≡_, refl, ap, ap₂, sym, _∙_}
 use mathlib.Core.Bool.{true, _&&_}
 use mathlib.Core.List.{List, [], _∷_, map, zipWith}
-use Prim.Native.Nat.{ℕ, zero, suc, _≤_}
+use Prim.Native.Nat.{ℕ, zero, suc, _≤_, _<_}
 use native.Mathlib.Omega.{arith}
 use lib.Dec.{eqb}
-use lib.ListN.{length, take, length-map}
+use lib.ListN.{length, getD, take, length-map}
 use lib.Seq.{length-take-le}
 use borrow.Author.Tests.{eqb-true}
 use Rattle.laws.specs.Lists.{padded, unused}
@@ -17,18 +17,25 @@ use Rattle.rules.specs.declared.Spare.{Spare as SparePlace}
 use Rattle.rules.specs.declared.State.{State}
 use Rattle.rules.specs.Limits.{guestPlaces, sparePlaces}
 use Rattle.rules.specs.Table.{entriesOf, noEntry}
-use Rattle.rules.specs.Model.{Guest, guest, Spare, spare, Model}
+use Rattle.rules.specs.Model.{Guest, guest, Spare, spare, Model, noGuest}
 use Rattle.rules.specs.Places.{guestOf, spareOf, model, entryOf, guestPlace, sparePlace, noGuestPlace, noSparePlace, tableOf, packed, guestPlaceIsZero, sparePlaceIsZero, unusedZero}
 use Rattle.rules.proofs.GoodTable.{Good}
 
 -- ---- guests are entries and places side by side
 
-zip-length : (n : ℕ) (es : List Entry) (gs : List GuestPlace) → length es ≡ n → length gs ≡ n → length (zipWith guestOf es gs) ≡ n
+pub zip-length : (n : ℕ) (es : List Entry) (gs : List GuestPlace) → length es ≡ n → length gs ≡ n → length (zipWith guestOf es gs) ≡ n
 unfolding zipWith
 zip-length n [] gs h k = h
 zip-length n (e ∷ es) [] h k = absurd (omega arith)
 zip-length zero (e ∷ es) (g ∷ gs) h k = absurd (omega arith)
 zip-length (suc n) (e ∷ es) (g ∷ gs) h k = ap suc (zip-length n es gs (omega arith) (omega arith))
+
+pub zip-at : (i : ℕ) (es : List Entry) (gs : List GuestPlace) → i < length es → i < length gs → getD (zipWith guestOf es gs) i noGuest ≡ guestOf (getD es i noEntry) (getD gs i noGuestPlace)
+unfolding zipWith
+zip-at i [] gs h k = absurd (omega arith)
+zip-at i (e ∷ es) [] h k = absurd (omega arith)
+zip-at zero (e ∷ es) (g ∷ gs) h k = refl
+zip-at (suc i) (e ∷ es) (g ∷ gs) h k = zip-at i es gs (omega arith) (omega arith)
 
 zip-entries : (es : List Entry) (gs : List GuestPlace) → length es ≡ length gs → map entryOf (zipWith guestOf es gs) ≡ es
 unfolding zipWith
@@ -52,7 +59,7 @@ place-spares : (ss : List Spare) → map spareOf (map sparePlace ss) ≡ ss
 place-spares [] = refl
 place-spares (spare d owner c ∷ ss) = ap {B = List Spare} (λ r. spare d owner c ∷ r) (place-spares ss)
 
-spare-places : (xs : List SparePlace) → map sparePlace (map spareOf xs) ≡ xs
+pub spare-places : (xs : List SparePlace) → map sparePlace (map spareOf xs) ≡ xs
 spare-places [] = refl
 spare-places (x ∷ xs) = ap {B = List SparePlace} (λ r. x ∷ r) (spare-places xs)
 
