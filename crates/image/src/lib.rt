@@ -27,21 +27,6 @@ mod bytes;
 mod reader;
 mod store;
 
-// "a refused table .. is all zeros"
-fn no_table() -> Table
-    ensures { λ r. ⌜ r ≡ noTable ⌝ }
-{
-    let none = Entry {
-        budget: 0,
-        period: 0,
-    };
-    Table {
-        frame: 0,
-        count: 0,
-        entries: [none; GUEST_PLACES],
-    }
-}
-
 fn entry_at(part: &[u8], at: usize) -> Entry
     requires { ⌜ at + 8 ≤ length (now part) ⌝ }
     ensures { λ r. ⌜ r ≡ entryIn (drop at (now (part .entry))) ⌝ }
@@ -76,7 +61,7 @@ fn entries_of(part: &[u8], count: usize) -> [Entry; GUEST_PLACES]
 fn refused(r: Refusal) -> Loaded
     ensures { λ l. ⌜ (l .answer ≡ Answer.Refused r) × (l .table ≡ noTable) ⌝ }
 {
-    let table = no_table();
+    let table = table::no_table();
     Loaded {
         answer: Answer::Refused(r),
         table,
@@ -87,7 +72,7 @@ fn refused(r: Refusal) -> Loaded
 fn checked(table: Table) -> Loaded
     ensures { λ l. ⌜ Tested table l ⌝ }
 {
-    let none = no_table();
+    let none = table::no_table();
     let answer = table::check(table);
     match answer {
         Answer::Refused(_) => Loaded {

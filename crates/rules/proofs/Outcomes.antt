@@ -126,6 +126,7 @@ one-outcome =
           λ j. record { answer = answer j; ticks = ticks j };
       fresh = λ t x y p q. outcomes _ _ x y (p .answer) (q .answer) (p .state) (q .state);
       check = λ t x y p q. answers _ x y (p .answer) (q .answer);
+      no-table = λ x y p q. p .table ∙ sym (q .table);
       read = λ image x y p q.
           let answer = answers _ (x .answer) (y .answer) (p .answer) (q .answer) in
           let table = p .table ∙ sym (q .table) in

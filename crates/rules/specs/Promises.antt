@@ -26,7 +26,7 @@ use Rattle.rules.specs.Steps.{Portion, onOwn, onSpare, burning, nothing,
 use Rattle.rules.specs.Places.{model, packed, freshState, noState}
 use Rattle.rules.specs.Sound.{sound}
 use Rattle.rules.specs.Image.{offsetIn, tableIn, readRows, imageOf, imageLength, writeRows, overwritten}
-use Rattle.rules.specs.Calls.{named, arrives, arriveRows, doneRows, advanceRows, askRows, marginRows, portionOf, Arrived, Finished, Advanced, AskedFor, ActiveTold, MarginTold, Freshened, TableChecked, TableRead, EntriesHanded, NumberTold, ImageChecked, TableWritten, Call, advances, numberGiven, stateAfter, run}
+use Rattle.rules.specs.Calls.{named, arrives, arriveRows, doneRows, advanceRows, askRows, marginRows, portionOf, Arrived, Finished, Advanced, AskedFor, ActiveTold, MarginTold, Freshened, TableChecked, NoTableMade, TableRead, EntriesHanded, NumberTold, ImageChecked, TableWritten, Call, advances, numberGiven, stateAfter, run}
 use Rattle.rules.specs.Runs.{afterAll, events, passed, ownTicks, lentTicks}
 use Rattle.rules.specs.Needed.{line212State, overfullRows, line212Rows}
 use Rattle.rules.specs.Borders.{Border, borders, alone, endOfTime}
@@ -287,6 +287,7 @@ pub record OneOutcome : Type 0 where
   pub margin : (s : State) (i : ℕ) (x y : Margin) → MarginTold s i x → MarginTold s i y → x ≡ y
   pub fresh : (t : Table) (x y : Outcome) → Freshened t x → Freshened t y → x ≡ y
   pub check : (t : Table) (x y : Answer) → TableChecked t x → TableChecked t y → x ≡ y
+  pub no-table : (x y : Table) → NoTableMade x → NoTableMade y → x ≡ y
   pub read : (image : List ℕ) (x y : Loaded) → TableRead image x → TableRead image y → x ≡ y
   pub entries : (image : List ℕ) (i j : ℕ) (x y : List ℕ) → EntriesHanded image i x → EntriesHanded image j y → (i ≡ j) × (x ≡ y)
   pub number : (a : Answer) (x y : ℕ) → NumberTold a x → NumberTold a y → x ≡ y

@@ -1,4 +1,4 @@
-// The check of a table that any caller may fill with any numbers: refusals 10, 12, 13 and 14, smallest first.
+// The check of a table that any caller may fill with any numbers, refusals 10, 12, 13 and 14, smallest first; and the table of a refusal.
 ghost use mathlib.Core.Path.{_≡_};
 ghost use mathlib.Core.Bool.{true};
 ghost use Prim.Native.Nat.{_≤_};
@@ -6,13 +6,28 @@ ghost use lib.ListN.{take, drop};
 ghost use Rattle.laws.specs.Lists.{every, total};
 ghost use Rattle.rules.specs.Limits.{guestPlaces, longestFrame};
 ghost use Rattle.rules.specs.Table.{fitsFrame, entryIsZero, shareOf};
-ghost use Rattle.rules.specs.Calls.{TableChecked};
+ghost use Rattle.rules.specs.Calls.{TableChecked, NoTableMade};
 use rules::Answer;
 use rules::Entry;
 use rules::GUEST_PLACES;
 use rules::LONGEST_FRAME;
 use rules::Refusal;
 use rules::Table;
+
+// "a refused table .. is all zeros"
+pub fn no_table() -> Table
+    ensures { λ r. ⌜ NoTableMade r ⌝ }
+{
+    let none = Entry {
+        budget: 0,
+        period: 0,
+    };
+    Table {
+        frame: 0,
+        count: 0,
+        entries: [none; GUEST_PLACES],
+    }
+}
 
 // A period of 0 divides nothing, and is tested first because nothing is divided by it.
 fn fits_frame(e: Entry, frame: u64) -> bool

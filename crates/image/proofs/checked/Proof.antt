@@ -19,7 +19,7 @@ enum-told-2 c = search needs
 returns : tie.Need-returns
 returns c =
     let a = c .before .before in
-    tested-refused (a .before .before .args .table) (a .before .no-table .result) (a .check .result) _ (a .check .ensures .answer) (c .enum-told .given .1) (a .before .no-table .ensures)
+    tested-refused (a .before .before .args .table) (a .before .no-table .result) (a .check .result) _ (a .check .ensures .answer) (c .enum-told .given .1) (a .before .no-table .ensures .table)
 
 returns-2 : tie.Need-returns-2
 returns-2 c =
