@@ -1,0 +1,14 @@
+-- `order::bit_of` meets its contract.
+use borrow.Author.Needs.{needs}
+use Rattle.order.proofs.Choosing.{bit-active}
+use Rattle.order.proofs.bit_of.Statement.{statement}
+use Rattle.order.proofs.bit_of.Tie as tie
+
+returns : tie.Need-returns
+returns c = search needs
+
+returns-2 : tie.Need-returns-2
+returns-2 c = bit-active _ (c .if1 .left)
+
+pub bit-of-spec : {M : Type 1} → statement M
+bit-of-spec = tie.close (tie.spec returns returns-2)

@@ -1,0 +1,23 @@
+-- What the mask and the choice read of the guests, and the rules' pick for what the choice answers.
+use mathlib.Core.List.{List, map}
+use Prim.Native.Nat.{ℕ}
+use lib.ListN.{take}
+use Rattle.rules.specs.declared.Guest.{Guest as GuestPlace}
+use Rattle.rules.specs.Model.{Guest}
+use Rattle.rules.specs.Places.{guestOf}
+use Rattle.rules.specs.Steps.{Pick, nobody, runs}
+use Rattle.rules.specs.Table.{noEntry}
+use Rattle.order.specs.declared.Chosen.{Chosen}
+use Rattle.order.specs.declared.Chosen.the-variants.{Nobody, Runs}
+
+-- a guest without its entry in the table: who runs does not depend on Q and T
+abbrev pub shown : GuestPlace → Guest
+shown g = guestOf noEntry g
+
+-- the first n guests
+abbrev pub inUse : ℕ → List GuestPlace → List Guest
+inUse n gs = map shown (take n gs)
+
+unfoldable pub pickOf : Chosen → Pick
+pickOf Nobody = nobody
+pickOf (Runs i d c) = runs i d c

@@ -1,0 +1,3 @@
+-- What the order of the guests and of the spares is, as the code answers it.
+pub mod Choice
+pub mod Told

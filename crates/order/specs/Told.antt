@@ -1,0 +1,38 @@
+-- What the crate's functions answer, for every list and every number, and that each answer is settled.
+use mathlib.Core.Path.{_≡_}
+use mathlib.Core.Bool.{Bool}
+use mathlib.Core.List.{List}
+use Prim.Native.Nat.{ℕ, _^_, _<_}
+use lib.Count.{ones}
+use lib.ListN.{length}
+use Rattle.rules.specs.declared.Guest.{Guest as GuestPlace}
+use Rattle.rules.specs.declared.Spare.{Spare as SparePlace}
+use Rattle.rules.specs.Limits.{guestPlaces}
+use Rattle.rules.specs.Model.{maskOf}
+use Rattle.rules.specs.Places.{spareOf}
+use Rattle.rules.specs.Steps.{before, earliest}
+use Rattle.order.specs.declared.Chosen.{Chosen}
+use Rattle.order.specs.Choice.{inUse, pickOf}
+
+-- "in strictly rising order of (deadline, owner)": whether x stands before y
+abbrev pub OrderTold : SparePlace → SparePlace → Bool → Type 0
+OrderTold x y r = r ≡ before (spareOf x) (spareOf y)
+
+-- "a mask, bit i for guest i", of the first `count` guests; it has no bit past the places
+abbrev pub MaskTold : List GuestPlace → ℕ → ℕ → Type 0
+MaskTold guests count r = (r ≡ maskOf (inUse count guests)) × (r < 2 ^ guestPlaces)
+
+-- "the count of its ones"
+abbrev pub OnesTold : ℕ → ℕ → Type 0
+OnesTold mask r = r ≡ ones mask
+
+-- step 2 of a tick, of the first `count` guests: "The active guest with the smallest d runs; equal deadlines, the lowest number."
+abbrev pub EarliestTold : List GuestPlace → ℕ → Chosen → Type 0
+EarliestTold guests count r = pickOf r ≡ earliest 0 (inUse count guests)
+
+-- any two outcomes that a predicate allows are equal
+pub record OneAnswer : Type 0 where
+  pub order : (x y : SparePlace) (a b : Bool) → OrderTold x y a → OrderTold x y b → a ≡ b
+  pub mask : (guests : List GuestPlace) (count a b : ℕ) → MaskTold guests count a → MaskTold guests count b → a ≡ b
+  pub ones : (mask a b : ℕ) → OnesTold mask a → OnesTold mask b → a ≡ b
+  pub earliest : (guests : List GuestPlace) (count : ℕ) (a b : Chosen) → EarliestTold guests count a → EarliestTold guests count b → a ≡ b
