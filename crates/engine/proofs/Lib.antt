@@ -1,0 +1,3 @@
+-- Laws of the engine's code.
+pub mod Answering
+pub mod Sparing

@@ -1,0 +1,3 @@
+// The engine: every call exactly what the rules say.
+mod active;
+mod spares;
