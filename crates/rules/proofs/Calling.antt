@@ -39,17 +39,17 @@ may-arrive s i h =
     record { named = named s i (c .0) (c .1 .0); jobs = c .1 .1 .0; room = c .1 .1 .1 .0; early = c .1 .1 .1 .1 .0 }
 
 -- what an accepted advance has
-record MayAdvance (s : State) (k : ℕ) : Type 0 where
-  whole : sound s ≡ true
-  time : model s .now + k ≤ lastTick
+pub record MayAdvance (s : State) (k : ℕ) : Type 0 where
+  pub whole : sound s ≡ true
+  pub time : model s .now + k ≤ lastTick
 
-may-advance : (s : State) (k : ℕ) → first (advanceRows s k) ≡ 0 → MayAdvance s k
+pub may-advance : (s : State) (k : ℕ) → first (advanceRows s k) ≡ 0 → MayAdvance s k
 unfolding model
 may-advance s k h =
     let c = clear 0 (advanceRows s k) refl h in
     record { whole = not-false (sound s) (c .0); time = ltb-false lastTick (s .now + k) (c .1 .0) }
 
-advance-allowed : (s : State) (k : ℕ) → MayAdvance s k → first (advanceRows s k) ≡ 0
+pub advance-allowed : (s : State) (k : ℕ) → MayAdvance s k → first (advanceRows s k) ≡ 0
 unfolding model
 advance-allowed s k a = none-given (advanceRows s k) (ap not (a .whole), (le-ltb lastTick (s .now + k) (a .time), tt))
 
@@ -103,7 +103,7 @@ advance-nothing s = go (first (advanceRows s 0)) refl
     go (suc n) e = refl
 
 -- the state after an accepted advance
-advanced : (s : State) (k : ℕ) → MayAdvance s k → stateAfter (advances k) s ≡ packed (advance k (model s))
+pub advanced : (s : State) (k : ℕ) → MayAdvance s k → stateAfter (advances k) s ≡ packed (advance k (model s))
 unfolding stateAfter
 advanced s k a = rw (advance-allowed s k a)
 

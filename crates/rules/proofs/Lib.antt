@@ -15,5 +15,7 @@ pub mod Packing
 pub mod Promised
 pub mod Refusing
 pub mod Served
+pub mod Spans
 pub mod Starting
 pub mod Ticking
+pub mod Walks

@@ -9,6 +9,8 @@ pub mod Sound
 pub mod Image
 pub mod Calls
 pub mod Lines
+pub mod Walks
+pub mod Spans
 pub mod Runs
 pub mod Borders
 pub mod Needed

@@ -5,6 +5,8 @@ pub const GUEST_PLACES: usize = 16;
 
 pub const SPARE_PLACES: usize = 64;
 
+pub const PORTION_PLACES: usize = 64;
+
 pub const MOST_JOBS: u64 = 255;
 
 pub const LAST_TICK: u64 = 1099511627776;
@@ -108,6 +110,32 @@ pub enum Next {
 pub struct Asked {
     pub answer: Answer,
     pub next: Next,
+}
+
+// What a portion of an advance used: guest's own budget, a spare (guest that ran, owner), a spare burned
+// idle (owner), or nothing.
+pub enum Used {
+    Own(usize),
+    SpareOf(usize, usize),
+    Burned(usize),
+    Idle,
+}
+
+// A portion of an advance, from its first tick to the tick it ends at.
+pub struct Portion {
+    pub first: u64,
+    pub end: u64,
+    pub used: Used,
+}
+
+// What a walk gives: its first portions, `count` of them, the state after them, and the ticks that are
+// left to walk.
+pub struct Walk {
+    pub answer: Answer,
+    pub state: State,
+    pub left: u64,
+    pub count: usize,
+    pub portions: [Portion; PORTION_PLACES],
 }
 
 // Bit i of the mask stands for guest i; `count` is the number of its ones.
