@@ -3,11 +3,12 @@ use mathlib.Core.Path.{_≡_, refl, sym, ap, _∙_}
 use mathlib.Core.Bool.{true, _&&_, and-assoc}
 use mathlib.Core.List.{List, [], _∷_, _++_}
 use Prim.Native.Nat.{ℕ, zero, suc, _+_, _-_, _≤_, _<_}
-use native.Mathlib.Nat.{sub-self, sub-zero, zero-sub, suc-sub-suc}
+use native.Mathlib.Nat.{sub-self, sub-zero, zero-sub, suc-add, suc-sub-suc}
+use native.Mathlib.Numerals.{add-one}
 use native.Mathlib.Omega.{arith}
 use lib.ListN.{length, set, getD, take, drop, length-drop, take-append-drop}
 use lib.Pow.{areBytes}
-use lib.Seq.{take-add, take-nil, drop-drop, getD-drop, sets, sets-eq, slice, paste, paste-zero, paste-suc}
+use lib.Seq.{take-add, take-nil, take-suc, drop-drop, getD-drop, sets, sets-eq, slice, paste, paste-zero, paste-suc}
 use Rattle.laws.proofs.Cases.{and-both}
 
 -- two parts side by side are one part
@@ -49,6 +50,13 @@ module _ {A : Type 0} where
   part-slice (suc from) zero l = rw (zero-sub (suc from))
   part-slice (suc from) (suc to) [] = take-nil (suc to - suc from)
   part-slice (suc from) (suc to) (x ∷ l) = rw (suc-sub-suc to from) (part-slice from to l)
+
+  -- a part that ends one element later
+  pub slice-more : (from to : ℕ) (l : List A) (z : A) → from ≤ to → to < length l → slice from (to + 1) l ≡ slice from to l ++ (getD l to z ∷ [])
+  slice-more zero to l z h k = rw (add-one to) (take-suc l to z k)
+  slice-more (suc from) zero l z h k = absurd (omega arith)
+  slice-more (suc from) (suc to) [] z h k = absurd (omega arith)
+  slice-more (suc from) (suc to) (x ∷ l) z h k = rw (suc-add to 1) (slice-more from to l z (omega arith) (omega arith))
 
   -- t is d, but the elements of l with an index from `from` up to i stand there from `to` on
   pub record Moved (l d : List A) (from to i : ℕ) (t : List A) : Type 0 where

@@ -85,17 +85,6 @@ module _ {A : Type 0} where
           rw (add-one at) (take-suc-set xs at x (omega (arith, length-places))) in
           m .so ∙ rw (e, front, part-slice at n xs, behind, longer, append-snoc)
 
-    -- one place fewer is used: all but the first are moved one place forward, and the last place is cleared
-    pub moved-forward : {i : ℕ} {t : List A} → Moved xs xs 1 0 i t → i ≡ n → (last : ℕ) → last + 1 ≡ n → n ≤ places
-        → set t last z ≡ padded places z (drop 1 (take n xs))
-    moved-forward {i} {t} m e last end k =
-        let next : suc last ≡ n = omega arith in
-        let fewer : n - 1 ≡ last = omega arith in
-        let shorter : length (slice 1 n xs) ≡ last = length-slice 1 n xs (omega (arith, length-places)) ∙ fewer in
-        let more : places - last ≡ suc (places - n) = omega arith in
-        let tail : drop last xs ≡ getD xs last z ∷ replicate (places - n) z = drop-cons xs last z (omega (arith, length-places)) ∙ rw (next, rest) in
-        rw (m .so, e, part-slice 1 n xs, fewer, zero-add last, shorter, more, tail) (set-at (slice 1 n xs) (getD xs last z) (replicate (places - n) z) z last shorter)
-
 -- the length of an array of structs, from what is known of its machine values
 pub length-mapped : (X Y : Type 0) (f : X → Y) (l : List X) (n : ℕ) → length (map f l) ≡ n → length l ≡ n
 length-mapped X Y f l n e = sym (length-map l f) ∙ e

@@ -131,7 +131,7 @@ module _ (x : Spare) where
   all-insert {P} p (each {x = y} {xs = ys} q qs) =
       by-test (λ t. All P (cond t (x ∷ y ∷ ys) (y ∷ insertSpare x ys))) (before x y) (λ h. each p (each q qs)) (λ h. each q (all-insert p qs))
 
-  length-insert : (ss : List Spare) → length (insertSpare x ss) ≡ suc (length ss)
+  pub length-insert : (ss : List Spare) → length (insertSpare x ss) ≡ suc (length ss)
   length-insert [] = refl
   length-insert (y ∷ ys) =
       by-test (λ t. length (cond t (x ∷ y ∷ ys) (y ∷ insertSpare x ys)) ≡ suc (suc (length ys))) (before x y) (λ h. refl) (λ h. ap suc (length-insert ys))

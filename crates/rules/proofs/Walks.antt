@@ -1,7 +1,7 @@
 -- The portions of an advance, some at a time: in parts, by walk after walk, and tick by tick.
 use mathlib.Core.Path.{_≡_, refl, sym, ap, _∙_}
 use mathlib.Core.List.{[], _++_, append-nil}
-use Prim.Native.Nat.{ℕ, zero, suc, _+_, _*_, _-_, _≤_, min}
+use Prim.Native.Nat.{ℕ, zero, suc, _+_, _*_, _-_, _≤_, _<_, min}
 use native.Mathlib.Nat.{zero-add, suc-add, add-comm, add-assoc, sub-self, sub-zero, sub-add-eq, add-sub-of-le, add-sub-cancel-left}
 use native.Mathlib.Numerals.{add-one}
 use native.Mathlib.Omega.{arith}
@@ -112,8 +112,12 @@ ticks-all : (k : ℕ) (m : Model) → May k m → ticksIn k k m ≡ k
 ticks-all k m a = omega (arith, ticks-in-le k k m, ticks-in-ge k k m a)
 
 -- portions that have all the ticks are all the portions
-lines-enough : (a b k : ℕ) (m : Model) → ticksIn a k m ≡ k → lines (a + b) k m ≡ lines a k m
+pub lines-enough : (a b k : ℕ) (m : Model) → ticksIn a k m ≡ k → lines (a + b) k m ≡ lines a k m
 lines-enough a b k m e = rw (lines-in-parts a b k m, e, sub-self, lines-none, append-nil)
+
+-- and the further ones have no ticks
+pub ticks-enough : (a b k : ℕ) (m : Model) → ticksIn a k m ≡ k → ticksIn (a + b) k m ≡ ticksIn a k m
+ticks-enough a b k m e = omega (arith, e, ticks-in-le (a + b) k m, ticks-in-parts a b k m)
 
 -- however many were asked for
 lines-same : (a b k : ℕ) (m : Model) → ticksIn a k m ≡ k → ticksIn b k m ≡ k → lines a k m ≡ lines b k m
@@ -133,15 +137,15 @@ module _ (s : State) (k : ℕ) (a : MayAdvance s k) where
   unfolding linesOf
   lines-of = rw (advance-allowed s k a)
 
-  walk-lines : walkLines k s ≡ lines portionPlaces k (model s)
+  pub walk-lines : walkLines k s ≡ lines portionPlaces k (model s)
   unfolding walkLines
   walk-lines = rw (advance-allowed s k a)
 
-  walk-left : walkLeft k s ≡ k - walked s k
+  pub walk-left : walkLeft k s ≡ k - walked s k
   unfolding walkLeft
   walk-left = rw (advance-allowed s k a)
 
-  walk-state : walkState k s ≡ packed (advance (walked s k) (model s))
+  pub walk-state : walkState k s ≡ packed (advance (walked s k) (model s))
   unfolding walkState
   walk-state = rw (advance-allowed s k a)
 
@@ -168,6 +172,10 @@ module _ (s : State) (k : ℕ) (a : MayAdvance s k) where
   -- the ticks of a walk and then those that it left
   walk-there : advance (walkLeft k s) (model (walkState k s)) ≡ advance k (model s)
   walk-there = rw (walk-left, walk-model, ← advance-add, add-sub-of-le (ticks-in-le portionPlaces k (model s)))
+
+-- a walk of some ticks makes some
+pub ticks-in-some : (most k : ℕ) (s : State) → MayAdvance s k → {m : Model} → model s ≡ m → 0 < k → 0 < most → 0 < ticksIn most k m
+ticks-in-some most k s a e h l = rw (← e) (omega (arith, ticks-in-ge most k (model s) (may-model s k a)))
 
 -- ---- walk after walk
 
