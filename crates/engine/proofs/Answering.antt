@@ -44,7 +44,7 @@ module _ (s : State) where
       }
 
   module _ (h : sound s ≡ true) (he : length (s .table .entries) ≡ guestPlaces) (hg : length (s .guests) ≡ guestPlaces) {mask : ℕ} (e : mask ≡ maskOf (inUse (s .table .count) (s .guests))) where
-    mask-told : mask ≡ maskOf (model s .guests)
+    pub mask-told : mask ≡ maskOf (model s .guests)
     unfolding model
     mask-told =
         let fits = guests-fit h in

@@ -2,15 +2,19 @@
 use mathlib.Core.Path.{_≡_, refl, ap, _∙_}
 use mathlib.Core.Bool.{Bool, true, false}
 use mathlib.Core.List.{List, [], _∷_, _++_, map, map-append, append-assoc}
-use Prim.Native.Nat.{ℕ, _+_, _≤_, _<_}
+use Prim.Native.Nat.{ℕ, _+_, _-_, _≤_, _<_}
 use native.Mathlib.Numerals.{add-one}
 use native.Mathlib.Omega.{arith}
-use lib.ListN.{length, getD, take, drop}
-use lib.Seq.{take-suc, slice, slice-cons, slice-empty}
+use lib.ListN.{length, getD, take, drop, set, replicate}
+use lib.Seq.{take-suc, slice, slice-cons, slice-empty, length-slice}
+use Rattle.laws.specs.Lists.{padded}
+use Rattle.laws.proofs.Parts.{slice-more}
+use Rattle.laws.proofs.Places.{set-padded}
+use Rattle.rules.specs.Limits.{sparePlaces}
 use Rattle.rules.specs.declared.Spare.{Spare as SparePlace}
 use Rattle.rules.specs.Model.{Spare}
 use Rattle.rules.specs.Steps.{before, insertSpare}
-use Rattle.rules.specs.Places.{spareOf, sparePlace}
+use Rattle.rules.specs.Places.{spareOf, sparePlace, noSparePlace}
 use Rattle.rules.proofs.Packing.{spare-places}
 
 module _ (x : SparePlace) (a : List SparePlace) (n : ℕ) where
@@ -44,8 +48,3 @@ module _ (x : SparePlace) (a : List SparePlace) (n : ℕ) where
   -- the list with x in places is the places with x put there
   pub placed-places : (i : ℕ) → PlacedAt i → map sparePlace WithSpare ≡ take i a ++ (x ∷ slice i n a)
   placed-places i e = ap (λ (l : List Spare). map sparePlace l) e ∙ spare-places _
-
--- and the list without its first
-pub left-places : (l : List SparePlace) → map sparePlace (drop 1 (map spareOf l)) ≡ drop 1 l
-left-places [] = refl
-left-places (x ∷ l) = spare-places l

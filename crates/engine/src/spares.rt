@@ -1,9 +1,9 @@
-// The list of spares in its places: one more in order, the first one spent.
+// The list of spares in its places, with one more in order.
 ghost use mathlib.Core.Path.{_≡_};
 ghost use mathlib.Core.Bool.{true};
 ghost use mathlib.Core.List.{_∷_, _++_, map};
 ghost use Prim.Native.Nat.{_<_, _≤_};
-ghost use lib.ListN.{take, drop};
+ghost use lib.ListN.{take};
 ghost use lib.Seq.{slice};
 ghost use Rattle.laws.specs.Lists.{padded, unused};
 ghost use Rattle.rules.specs.Limits.{sparePlaces};
@@ -56,25 +56,4 @@ pub(crate) fn inserted(
 {
     let at = place_of(spares, count, x);
     put_at(spares, count, at, x)
-}
-
-// The list without its first spare: each other one place forward, and the last place cleared.
-pub(crate) fn first_removed(spares: [Spare; SPARE_PLACES], count: usize) -> [Spare; SPARE_PLACES]
-    requires { ⌜ (0 < count) × (count ≤ sparePlaces) ⌝ }
-    requires { ⌜ unused sparePlaceIsZero sparePlaces count spares ≡ true ⌝ }
-    ensures { λ r. ⌜ r ≡ padded sparePlaces noSparePlace (map sparePlace (drop 1 (map spareOf (take count spares)))) ⌝ }
-{
-    let empty = Spare {
-        deadline: 0,
-        owner: 0,
-        capacity: 0,
-    };
-    let mut t = spares;
-    let mut i: usize = 1;
-    while i < count {
-        t[i - 1] = spares[i];
-        i = i + 1;
-    }
-    t[count - 1] = empty;
-    t
 }

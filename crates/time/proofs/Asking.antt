@@ -1,0 +1,46 @@
+-- What Ask answers: the choice after step 1 of a tick, and the first spare.
+use mathlib.Core.Path.{_≡_, refl, sym, ap, _∙_}
+use mathlib.Core.Bool.{true, false}
+use mathlib.Core.List.{List, []}
+use Prim.Native.Nat.{ℕ}
+use native.Mathlib.Omega.{arith}
+use lib.Dec.{ltb}
+use lib.ListN.{getD, length, length-map}
+use Rattle.rules.specs.declared.Answer.the-variants.{Went, Refused}
+use Rattle.rules.specs.declared.Asked.{Asked}
+use Rattle.rules.specs.declared.Guest.{Guest as GuestPlace}
+use Rattle.rules.specs.declared.Next.{Next}
+use Rattle.rules.specs.declared.Next.the-variants.{Nothing}
+use Rattle.rules.specs.declared.Refusal.the-variants.{NotSound}
+use Rattle.rules.specs.declared.State.{State}
+use Rattle.rules.specs.Calls.{told, askRows, portionOf, AskedFor}
+use Rattle.rules.specs.Places.{model, noSparePlace}
+use Rattle.rules.specs.Refusals.{first}
+use Rattle.rules.specs.Sound.{sound}
+use Rattle.rules.specs.Steps.{renew, renewed, Pick, earliest, Portion, nothing, portion, next, ask}
+use Rattle.rules.proofs.Facts.{points, guests-count}
+use Rattle.order.specs.Choice.{inUse}
+use Rattle.time.specs.Charges.{firstOf}
+use Rattle.time.specs.Clocks.{placed}
+use Rattle.time.proofs.Placing.{spares-long}
+use Rattle.time.proofs.Rows.{gives-1, past-1, told-nothing}
+use Rattle.time.proofs.Turning.{earliest-in, portion-in}
+
+module _ (s : State) where
+  pub ask-refused : sound s ≡ false → AskedFor s (record { answer = Refused NotSound; next = Nothing })
+  ask-refused h = let e = gives-1 s [] h in record { answer = e; next = told-nothing ask nothing s (askRows s) NotSound e }
+
+  module _ (h : sound s ≡ true) where
+    pub ask-told : {x : Next} → portionOf x ≡ ask (model s) → AskedFor s (record { answer = Went; next = x })
+    ask-told e = let z = past-1 s [] h refl in record { answer = z; next = e ∙ ap (λ (n : ℕ). told n ask nothing s) z }
+
+    -- the code's choice and its first spare are the rules'
+    pub ask-next : {gs : List GuestPlace} {q : Pick} {p : Portion} → gs ≡ placed (renewed (model s) .guests) → q ≡ earliest 0 (inUse (s .table .count) gs)
+        → p ≡ portion q (firstOf (ltb 0 (s .count)) (getD (s .spares) 0 noSparePlace)) → p ≡ ask (model s)
+    unfolding ask next renewed model
+    ask-next eg eq ep =
+        let m = model s in
+        let long : length (renewed m .guests) ≡ s .table .count = length-map (m .guests) renew ∙ guests-count s h in
+        ep
+        ∙ ap (λ (q : Pick). portion q (firstOf (ltb 0 (s .count)) (getD (s .spares) 0 noSparePlace))) (eq ∙ earliest-in (s .table .count) (renewed m .guests) eg long)
+        ∙ portion-in (s .spares) 0 (s .count) 0 (points s h .few) (spares-long s h) (λ _. refl) (omega arith) (earliest 0 (renewed m .guests))

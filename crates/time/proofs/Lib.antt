@@ -1,0 +1,9 @@
+-- Laws of time, portion by portion, and of states in places.
+pub mod Advancing
+pub mod Asking
+pub mod Charging
+pub mod Leaving
+pub mod Placing
+pub mod Renewing
+pub mod Rows
+pub mod Turning

@@ -1,0 +1,551 @@
+-- What a walk knows between two portions, and what one portion adds.
+use mathlib.Core.Path.{_≡_, refl, sym, subst, ap, ap₂, _∙_}
+use mathlib.Core.Bool.{Bool, true, false, _&&_}
+use mathlib.Core.List.{List, [], _∷_, _++_, map, map-append}
+use Prim.Native.Nat.{ℕ, zero, suc, _+_, _-_, _^_, _≤_, _<_}
+use native.Mathlib.Nat.{sub-zero}
+use native.Mathlib.Numerals.{add-one}
+use native.Mathlib.Omega.{arith}
+use lib.Dec.{ltb}
+use lib.ListN.{length, getD, take, drop, set, replicate, length-map, length-append, length-set, List·getD-map}
+use lib.Seq.{slice, slice-cons, slice-empty, length-slice, drop-drop}
+use borrow.Author.Tests.{ltb-true, ltb-false, lt-ltb}
+use Rattle.laws.specs.Lists.{total, changed, padded}
+use Rattle.laws.proofs.Cases.{and-both, and-second, by-ltb}
+use Rattle.laws.proofs.Elements.{All, none, each, all-at, all-map, all-imp, map-changed, map-same, length-changed, total-map}
+use Rattle.laws.proofs.Places.{take-padded, set-padded}
+use Rattle.rules.specs.declared.Entry.{Entry}
+use Rattle.rules.specs.declared.Guest.{Guest as GuestPlace}
+use Rattle.rules.specs.declared.Spare.{Spare as SparePlace}
+use Rattle.rules.specs.declared.Portion.{Portion as PortionPlace}
+use Rattle.rules.specs.declared.State.{State}
+use Rattle.rules.specs.declared.Walk.{Walk}
+use Rattle.rules.specs.Limits.{guestPlaces, sparePlaces, portionPlaces, lastTick, longestFrame, deadlineBound}
+use Rattle.rules.specs.Lines.{Line, line, useOf, ticksOn, lineFor, lines}
+use Rattle.rules.specs.Model.{Guest, guest, Spare, spare, Model, leftOf, deadlineOf, talliesOf, capacityOf, noGuest, guestAt, spareAt}
+use Rattle.rules.specs.Places.{guestOf, spareOf, model, entryOf, guestPlace, sparePlace, noGuestPlace, noSparePlace, packed}
+use Rattle.rules.specs.Sound.{sound}
+use Rattle.rules.specs.Steps.{but, renew, renewed, Pick, nobody, runs, earliest, Portion, portion, next, advance, ask}
+use Rattle.rules.specs.Table.{noEntry}
+use Rattle.rules.specs.Walks.{ticksIn, portionPlace, noPortion, Walked}
+use Rattle.rules.proofs.Calling.{MayAdvance, advance-allowed}
+use Rattle.rules.proofs.Packing.{spare-places}
+use Rattle.rules.proofs.Facts.{GuestGood, Sane, points, sane-model, guests-count}
+use Rattle.rules.proofs.Keeping.{entry-renew, tallies-renew}
+use Rattle.rules.proofs.Spans.{settled, ask-uses, span-positive, at-once}
+use Rattle.rules.proofs.Ticking.{advance-now, advance-add, advance-sane}
+use Rattle.rules.proofs.Walks.{ticks-in-le, lines-more, ticks-more, ticks-enough, lines-enough, walk-lines, walk-left, walk-state}
+use Rattle.order.specs.Choice.{shown, inUse}
+use Rattle.time.specs.declared.portions.Charge.{Charge}
+use Rattle.time.specs.Charges.{firstOf, chargeOf, ranPlace, spentPlace}
+use Rattle.time.specs.declared.walking.Clock.{Clock}
+use Rattle.time.specs.Clocks.{placed, listed, begunFrom, startedAt, laterBy, stateOf, walkOf}
+use Rattle.time.proofs.Charging.{ranBy, lostBy, made, Fits, charge-fits}
+use Rattle.time.proofs.Placing.{placed-at, placed-changed, table-good, packed-fields, spares-long, guest-here, guest-inside, guest-good}
+
+pub begun-some : (k : ℕ) (m : Model) → (k ≡ 0 → ⊥) → begunFrom k m ≡ renewed m
+begun-some zero m h = absurd (h refl)
+begun-some (suc k) m h = refl
+
+-- ---- a model in the walk's variables
+
+pub record Shows (s : State) (x : Model) (ps : List GuestPlace) (ss : List SparePlace) (h : Clock) : Type 0 where
+  pub frame : x .frame ≡ s .table .frame
+  pub entries : map entryOf (x .guests) ≡ map entryOf (model s .guests)
+  pub guests : ps ≡ placed (x .guests)
+  pub spares : map spareOf (slice (h .head) (s .count) ss) ≡ x .spares
+  pub head : h .head ≤ s .count
+  pub now : h .now ≡ x .now
+  pub burned : h .burned ≡ x .burned
+  pub idle : h .idle ≡ x .idle
+
+-- a guest is its entry and its place
+whole : (g : Guest) → guestOf (entryOf g) (guestPlace g) ≡ g
+whole (guest Q T jobs c d own lent) = refl
+
+module _ (s : State) (h : sound s ≡ true) (x : Model) (same : map entryOf (x .guests) ≡ map entryOf (model s .guests)) where
+  -- as many guests as the table says
+  pub shown-count : length (x .guests) ≡ s .table .count
+  shown-count = sym (length-map (x .guests) entryOf) ∙ ap length same ∙ length-map (model s .guests) entryOf ∙ guests-count s h
+
+  module _ (i : ℕ) (inside : i < s .table .count) where
+    pub shown-inside : i < length (x .guests)
+    shown-inside = omega (arith, shown-count)
+
+    -- guest i is what stands in its place of the table and of the guests
+    pub shown-at : {guests : List GuestPlace} → guests ≡ placed (x .guests) → guestOf (getD (s .table .entries) i noEntry) (getD guests i noGuestPlace) ≡ guestAt i (x .guests)
+    shown-at {guests} e =
+        let g = guestAt i (x .guests) in
+        let entry : getD (s .table .entries) i noEntry ≡ entryOf g =
+        sym (ap entryOf (guest-here s h i inside)) ∙ sym (List·getD-map entryOf (model s .guests) i noGuest) ∙ ap (λ (es : List Entry). getD es i noEntry) (sym same) ∙ List·getD-map entryOf (x .guests) i noGuest in
+        let place : getD guests i noGuestPlace ≡ guestPlace g = ap (λ (gs : List GuestPlace). getD gs i noGuestPlace) e ∙ placed-at (x .guests) i shown-inside in
+        ap₂ guestOf entry place ∙ whole g
+
+-- ---- the choice, and what comes next
+
+earliest-placed : (i : ℕ) (gs : List Guest) → earliest i (map shown (map guestPlace gs)) ≡ earliest i gs
+earliest-placed i [] = refl
+earliest-placed i (guest Q T zero c d own lent ∷ gs) = earliest-placed (suc i) gs
+earliest-placed i (guest Q T (suc jobs) c d own lent ∷ gs) = rw (earliest-placed (suc i) gs)
+
+-- the choice among guests in places
+pub earliest-in : (n : ℕ) (gs : List Guest) {guests : List GuestPlace} → guests ≡ placed gs → length gs ≡ n → earliest 0 (inUse n guests) ≡ earliest 0 gs
+earliest-in n gs {guests} e l =
+    ap (λ (ps : List GuestPlace). earliest 0 (inUse n ps)) e
+    ∙ ap (λ (ps : List GuestPlace). earliest 0 (map shown ps)) (take-padded guestPlaces noGuestPlace n (map guestPlace gs) (length-map gs guestPlace ∙ l))
+    ∙ earliest-placed 0 gs
+
+portion-first : (q : Pick) (x : Spare) (ss : List Spare) → portion q (x ∷ []) ≡ portion q (x ∷ ss)
+portion-first nobody (spare d owner c) ss = refl
+portion-first (runs i d c) (spare e owner b) ss = refl
+
+drop-map : {A B : Type 0} (f : A → B) (n : ℕ) (xs : List A) → map f (drop n xs) ≡ drop n (map f xs)
+drop-map f zero xs = refl
+drop-map f (suc n) [] = refl
+drop-map f (suc n) (x ∷ xs) = drop-map f n xs
+
+-- a part whose first element is stored
+slice-set : {A : Type 0} (from to : ℕ) (l : List A) (y : A) → from < to → to ≤ length l → slice from to (set l from y) ≡ y ∷ slice (suc from) to l
+slice-set from zero l y h k = absurd (omega arith)
+slice-set from (suc to) [] y h k = absurd (omega arith)
+slice-set zero (suc to) (x ∷ l) y h k = refl
+slice-set (suc from) (suc to) (x ∷ l) y h k = slice-set from to l y (omega arith) (omega arith)
+
+-- the first spare from the head on, if there is any
+module _ (ss : List SparePlace) (head count at : ℕ) (few : count ≤ sparePlaces) (long : length ss ≡ sparePlaces) (place : head < sparePlaces → at ≡ head) (low : head ≤ count) where
+  abbrev X : SparePlace
+  X = getD ss at noSparePlace
+
+  first-cons : head < count → map spareOf (slice head count ss) ≡ spareOf X ∷ map spareOf (slice (suc head) count ss)
+  first-cons h = rw (place (omega arith), slice-cons head count ss noSparePlace h (omega arith))
+
+  first-none : count ≤ head → map spareOf (slice head count ss) ≡ []
+  first-none h = let e : head ≡ count = omega arith in rw (e, slice-empty count ss)
+
+  pub portion-in : (q : Pick) → portion q (firstOf (ltb head count) X) ≡ portion q (map spareOf (slice head count ss))
+  portion-in q =
+      by-ltb (λ t. portion q (firstOf t X) ≡ portion q (map spareOf (slice head count ss))) head count
+      (λ h. portion-first q (spareOf X) _ ∙ ap (portion q) (sym (first-cons h)))
+      (λ h. ap (portion q) (sym (first-none h)))
+
+  module _ (c : Charge) (fits : c .spent ≤ capacityOf (spareAt 0 (map spareOf (slice head count ss)))) (fewer : c .removed ≤ length (map spareOf (slice head count ss))) where
+    pub spent-in : c .spent ≤ X .capacity
+    spent-in =
+        by-ltb (λ _. c .spent ≤ X .capacity) head count
+        (λ h. rw (first-cons h) at fits)
+        (λ h. let none : c .spent ≤ 0 = rw (first-none h) at fits in omega arith)
+
+    pub head-in : head + c .removed ≤ count
+    head-in = omega (arith, fewer, length-map (slice head count ss) spareOf, length-slice head count ss (omega arith))
+
+    -- the spares after what is charged
+    pub lost-in : map spareOf (slice (head + c .removed) count (set ss at (spentPlace c X))) ≡ lostBy c (map spareOf (slice head count ss))
+    lost-in =
+        by-ltb (λ _. map spareOf (slice (head + c .removed) count (set ss at (spentPlace c X))) ≡ lostBy c (map spareOf (slice head count ss))) head count
+        (λ h.
+        let rest = slice (suc head) count ss in
+        let Y = spentPlace c X in
+        let after : slice head count (set ss at Y) ≡ Y ∷ rest = rw (place (omega arith)) (slice-set head count ss (spentPlace c (getD ss head noSparePlace)) h (omega arith)) in
+        ap (λ (l : List SparePlace). map spareOf l) (sym (drop-drop (c .removed) head (take count (set ss at Y))) ∙ ap (drop (c .removed)) after)
+        ∙ drop-map spareOf (c .removed) (Y ∷ rest)
+        ∙ ap (lostBy c) (sym (first-cons h)))
+        (λ h.
+        let last : head + c .removed ≡ count = omega (arith, head-in) in
+        rw (last, slice-empty count (set ss at (spentPlace c X)), first-none h))
+
+-- ---- the guests
+
+-- guests of whom none is to be renewed
+settled-all : {gs : List Guest} → All (λ g. renew g ≡ g) gs → map renew gs ≡ gs
+settled-all none = refl
+settled-all (each e es) = rw (e, settled-all es)
+
+-- where one of them was changed, it alone is to be renewed
+settled-but : (i : ℕ) (f : Guest → Guest) {gs : List Guest} → All (λ g. renew g ≡ g) gs → changed i renew (changed i f gs) ≡ map renew (changed i f gs)
+settled-but i f none = refl
+settled-but zero f (each e es) = rw (settled-all es)
+settled-but (suc i) f (each e es) = rw (e, settled-but i f es)
+
+settled-one : (i : ℕ) {gs : List Guest} → All (λ g. renew g ≡ g) gs → changed i renew gs ≡ gs
+settled-one i none = refl
+settled-one zero (each e es) = rw e
+settled-one (suc i) (each e es) = rw (settled-one i es)
+
+entry-ran : (c : Charge) (g : Guest) → entryOf (ranBy c g) ≡ entryOf g
+entry-ran c (guest Q T jobs l d own lent) = refl
+
+place-ran : (c : Charge) (g : Guest) → ranPlace c (guestPlace g) ≡ guestPlace (ranBy c g)
+place-ran c (guest Q T jobs l d own lent) = refl
+
+-- a renewed deadline is one period later at most
+early-renew : (bound : ℕ) (g : Guest) → GuestGood bound g → deadlineOf (renew g) ≤ bound + longestFrame
+early-renew bound (guest Q T zero c d own lent) p = omega (arith, p .early)
+early-renew bound (guest Q T (suc jobs) zero d own lent) p = omega (arith, p .early, p .served)
+early-renew bound (guest Q T (suc jobs) (suc c) d own lent) p = omega (arith, p .early)
+
+-- one tally is no more than all
+tally-at : (i : ℕ) (gs : List Guest) → i < length gs → talliesOf (guestAt i gs) ≤ total talliesOf gs
+tally-at i [] h = absurd (omega arith)
+tally-at zero (g ∷ gs) h = omega arith
+tally-at (suc i) (g ∷ gs) h = omega (arith, tally-at i gs (omega arith))
+
+-- a guest's numbers stand in its place
+place-left : (g : Guest) → guestPlace g .left ≡ leftOf g
+place-left (guest Q T jobs c d own lent) = refl
+
+place-tallies : (g : Guest) → guestPlace g .own + guestPlace g .lent ≡ talliesOf g
+place-tallies (guest Q T jobs c d own lent) = refl
+
+-- one portion of some ticks
+ticks-one : (k : ℕ) (m : Model) → 0 < k → ticksIn 1 k m ≡ ticksOn k (ask m)
+unfolding ticksIn
+ticks-one zero m h = absurd (omega arith)
+ticks-one (suc k) m h = omega arith
+
+lines-one : (k : ℕ) (m : Model) → 0 < k → lines 1 k m ≡ lineFor m k ∷ []
+unfolding lines
+lines-one zero m h = absurd (omega arith)
+lines-one (suc k) m h = refl
+
+-- ---- between two portions
+
+-- the model after the first portions
+abbrev pub reached : State → ℕ → ℕ → Model
+reached s k count = advance (ticksIn count k (model s)) (model s)
+
+-- the variables show a model: the one reached, or before the first portion that one renewed; who ran last may be still to renew
+pub record Walking (s : State) (k : ℕ) (ps : List GuestPlace) (ss : List SparePlace) (qs : List PortionPlace) (h : Clock) (count : ℕ) (more : Bool) : Type 0 where
+  pub x : Model
+  pub shows : Shows s x ps ss h
+  pub early : All (λ g. deadlineOf g ≤ 2 ^ 62) (x .guests)
+  pub exact : (0 < h .left → 0 < count) → x ≡ reached s k count
+  pub ready : 0 < h .left → but x (changed (h .last) renew (x .guests)) (x .spares) ≡ renewed (reached s k count)
+  pub left : h .left ≡ k - ticksIn count k (model s)
+  pub last : h .last < s .table .count
+  pub long : length ss ≡ sparePlaces
+  pub few : count ≤ portionPlaces
+  pub noted : qs ≡ padded portionPlaces noPortion (map portionPlace (lines count k (model s)))
+  pub counted : length (lines count k (model s)) ≡ count
+  pub goes : more ≡ ltb 0 (h .left) && ltb count portionPlaces
+
+-- what one portion gives the code: r is the guest that ran last, renewed; p is what comes next, and g what is charged
+pub record Turned (s : State) (k : ℕ) (ps : List GuestPlace) (ss : List SparePlace) (qs : List PortionPlace) (c : Clock) (count : ℕ) (r : GuestPlace) (at : ℕ) (p : Portion) (g : Charge) : Type 0 where
+  -- the guest that is charged, and the first spare
+  pub inside : g .guest < s .table .count
+  pub ran :
+      let b = getD (set ps (c .last) r) (g .guest) noGuestPlace in
+      (g .own ≤ b .left) × (b .own + g .own < 2 ^ 64) × (b .lent + g .lent < 2 ^ 64)
+  pub spent : g .spent ≤ getD ss at noSparePlace .capacity
+  pub now : c .now + g .ticks < 2 ^ 64
+  pub later : (g .ticks ≤ c .left) × (c .now + g .ticks < 2 ^ 64) × (c .burned + g .burned < 2 ^ 64) × (c .idle + g .idle < 2 ^ 64) × (c .head + g .removed < 2 ^ 64)
+  pub more :
+      {a : GuestPlace} {y : SparePlace} {b : PortionPlace} {d : Clock} {more : Bool} → a ≡ ranPlace g (getD (set ps (c .last) r) (g .guest) noGuestPlace)
+      → y ≡ spentPlace g (getD ss at noSparePlace) → b ≡ portionPlace (line (c .now) (c .now + g .ticks) (useOf p)) → d ≡ laterBy g c
+      → more ≡ ltb 0 (d .left) && ltb (count + 1) portionPlaces
+      → Walking s k (set (set ps (c .last) r) (g .guest) a) (set ss at y) (set qs count b) d (count + 1) more
+
+module _ (s : State) (k : ℕ) (h : sound s ≡ true) (time : s .now + k ≤ lastTick) where
+  reached-sane : (count : ℕ) → Sane (reached s k count)
+  unfolding model
+  reached-sane count = advance-sane (ticksIn count k (model s)) (model s) (omega (arith, time, ticks-in-le count k (model s))) (sane-model s h)
+
+  reached-now : (count : ℕ) → reached s k count .now ≡ s .now + ticksIn count k (model s)
+  unfolding model
+  reached-now count = advance-now (ticksIn count k (model s)) (model s)
+
+  reached-early : (count : ℕ) → All (λ g. deadlineOf g ≤ 2 ^ 62) (reached s k count .guests)
+  reached-early count = all-imp (λ g p. omega (arith, p .early, reached-sane count .time)) (reached-sane count .guests)
+
+  -- ---- before the first portion
+
+  begun-shows : (n : ℕ) {ps : List GuestPlace} → ps ≡ placed (begunFrom n (model s) .guests) → Shows s (begunFrom n (model s)) ps (s .spares) (startedAt s k)
+  unfolding model renewed
+  begun-shows zero e = record { frame = refl; entries = refl; guests = e; spares = refl; head = omega arith; now = refl; burned = refl; idle = refl }
+  begun-shows (suc n) e =
+      record { frame = refl; entries = map-same entryOf renew entry-renew (model s .guests); guests = e; spares = refl; head = omega arith; now = refl; burned = refl; idle = refl }
+
+  begun-early : (n : ℕ) → All (λ g. deadlineOf g ≤ 2 ^ 62) (begunFrom n (model s) .guests)
+  unfolding renewed model
+  begun-early zero = all-imp (λ g p. omega (arith, p .early, sane-model s h .time)) (sane-model s h .guests)
+  begun-early (suc n) = all-map (λ g. deadlineOf g ≤ 2 ^ 62) renew (λ g p. omega (arith, early-renew (deadlineBound (s .now)) g p, sane-model s h .time)) (sane-model s h .guests)
+
+  begun-exact : (n : ℕ) → (0 < n → 0 < 0) → begunFrom n (model s) ≡ model s
+  begun-exact zero f = refl
+  begun-exact (suc n) f = absurd (omega (arith, f (omega arith)))
+
+  begun-ready : (n : ℕ) → 0 < n → but (begunFrom n (model s)) (changed 0 renew (begunFrom n (model s) .guests)) (begunFrom n (model s) .spares) ≡ renewed (model s)
+  begun-ready zero f = absurd (omega arith)
+  begun-ready (suc n) f = ap (λ (gs : List Guest). but (renewed (model s)) gs (renewed (model s) .spares)) (settled-one 0 (settled (model s) (sane-model s h)))
+
+  pub walking-start : {ps : List GuestPlace} {qs : List PortionPlace} {c : Clock} {more : Bool} → c ≡ startedAt s k → ps ≡ placed (begunFrom k (model s) .guests) → qs ≡ replicate portionPlaces noPortion
+      → more ≡ ltb 0 k && ltb 0 portionPlaces → Walking s k ps (s .spares) qs c 0 more
+  unfolding ticksIn lines advance
+  walking-start {ps} {qs} {c} {more} ec e f g =
+      subst (λ (c : Clock). Walking s k ps (s .spares) qs c 0 more) (sym ec)
+      (record {
+        x = begunFrom k (model s);
+        shows = begun-shows k e;
+        early = begun-early k;
+        exact = begun-exact k;
+        ready = begun-ready k;
+        left = sym (sub-zero k);
+        last = omega (arith, table-good s h .count-low);
+        long = spares-long s h;
+        few = omega arith;
+        noted = f;
+        counted = refl;
+        goes = g;
+      })
+
+  -- ---- one portion
+
+  module _ {ps : List GuestPlace} {ss : List SparePlace} {qs : List PortionPlace} {c : Clock} {count : ℕ} (w : Walking s k ps ss qs c count true) where
+    abbrev M : Model
+    M = reached s k count
+
+    abbrev R : Model
+    R = renewed M
+
+    some : 0 < c .left
+    some = ltb-true 0 (c .left) (and-both (ltb 0 (c .left)) (ltb count portionPlaces) (sym (w .goes)) .0)
+
+    pub room : count < portionPlaces
+    room = ltb-true count portionPlaces (and-both (ltb 0 (c .left)) (ltb count portionPlaces) (sym (w .goes)) .1)
+
+    guests-ready : changed (c .last) renew (w .x .guests) ≡ R .guests
+    guests-ready = ap (λ (m : Model). m .guests) (w .ready some)
+
+    spares-ready : w .x .spares ≡ R .spares
+    spares-ready = ap (λ (m : Model). m .spares) (w .ready some)
+
+    same-entries : map entryOf (R .guests) ≡ map entryOf (model s .guests)
+    same-entries = ap (λ (gs : List Guest). map entryOf gs) (sym guests-ready) ∙ map-changed entryOf renew entry-renew (c .last) (w .x .guests) ∙ w .shows .entries
+
+    -- the guest that ran last, renewed
+    pub turn-fits : getD ps (c .last) noGuestPlace .deadline + getD (s .table .entries) (c .last) noEntry .period < 2 ^ 64
+    turn-fits =
+        let g = guestOf (getD (s .table .entries) (c .last) noEntry) (getD ps (c .last) noGuestPlace) in
+        let e : g ≡ guestAt (c .last) (w .x .guests) = shown-at s h (w .x) (w .shows .entries) (c .last) (w .last) (w .shows .guests) in
+        let d : deadlineOf g ≤ 2 ^ 62 = rw e (all-at (w .early) noGuest (c .last) (shown-inside s h (w .x) (w .shows .entries) (c .last) (w .last))) in
+        omega (arith, d, guest-good s h (c .last) (w .last) .served)
+
+    module _ {r : GuestPlace} (er : r ≡ guestPlace (renew (guestOf (getD (s .table .entries) (c .last) noEntry) (getD ps (c .last) noGuestPlace)))) where
+      turn-renewed : set ps (c .last) r ≡ placed (R .guests)
+      turn-renewed =
+          let e = shown-at s h (w .x) (w .shows .entries) (c .last) (w .last) (w .shows .guests) in
+          ap₂ (λ (gs : List GuestPlace) (g : GuestPlace). set gs (c .last) g) (w .shows .guests) (er ∙ ap (λ (g : Guest). guestPlace (renew g)) e)
+          ∙ sym (placed-changed (w .x .guests) (c .last) (shown-inside s h (w .x) (w .shows .entries) (c .last) (w .last)) renew)
+          ∙ ap placed guests-ready
+
+      module _ {q : Pick} (ec : q ≡ earliest 0 (inUse (s .table .count) (set ps (c .last) r))) {at : ℕ} (ea : c .head < sparePlaces → at ≡ c .head) where
+        long : length ss ≡ sparePlaces
+        long = w .long
+
+        -- the first spare, if there is any
+        abbrev Y : SparePlace
+        Y = getD ss at noSparePlace
+
+        few : s .count ≤ sparePlaces
+        few = points s h .few
+
+        spares-shown : map spareOf (slice (c .head) (s .count) ss) ≡ R .spares
+        spares-shown = w .shows .spares ∙ spares-ready
+
+        count-shown : length (R .guests) ≡ s .table .count
+        count-shown = shown-count s h R same-entries
+
+        module _ {p : Portion} (en : p ≡ portion q (firstOf (ltb (c .head) (s .count)) Y)) where
+          -- it is what the rules ask
+          turn-next : p ≡ ask M
+          unfolding ask next
+          turn-next =
+              en
+              ∙ ap (λ (q : Pick). portion q (firstOf (ltb (c .head) (s .count)) Y)) (ec ∙ earliest-in (s .table .count) (R .guests) turn-renewed count-shown)
+              ∙ portion-in ss (c .head) (s .count) at few long ea (w .shows .head) (earliest 0 (R .guests))
+              ∙ ap (portion (earliest 0 (R .guests))) spares-shown
+
+          module _ {g : Charge} (eg : g ≡ chargeOf (c .left) (c .last) p) where
+            fits : Fits g (c .left) (ask M) R
+            fits =
+                rw (eg ∙ ap (chargeOf (c .left) (c .last)) turn-next)
+                (charge-fits (c .left) (c .last) some R (omega (arith, count-shown, w .last)) (ask M) (ask-uses M) (span-positive M (reached-sane count)))
+
+            turn-inside : g .guest < s .table .count
+            turn-inside = omega (arith, count-shown, fits .names)
+
+            -- the guest that is charged
+            abbrev B : GuestPlace
+            B = getD (set ps (c .last) r) (g .guest) noGuestPlace
+
+            place-here : B ≡ guestPlace (guestAt (g .guest) (R .guests))
+            place-here = ap (λ (gs : List GuestPlace). getD gs (g .guest) noGuestPlace) turn-renewed ∙ placed-at (R .guests) (g .guest) (fits .names)
+
+            tallies-here : B .own + B .lent ≤ lastTick
+            unfolding renewed
+            tallies-here =
+                rw place-here
+                (omega (arith, place-tallies (guestAt (g .guest) (R .guests)), tally-at (g .guest) (R .guests) (fits .names), total-map talliesOf renew tallies-renew (M .guests), reached-sane count .tally, reached-sane count .time))
+
+            ticks-left : g .ticks ≤ lastTick
+            ticks-left = omega (arith, fits .most, w .left, time)
+
+            turn-ran : (g .own ≤ B .left) × (B .own + g .own < 2 ^ 64) × (B .lent + g .lent < 2 ^ 64)
+            turn-ran =
+                let own : g .own ≤ B .left = rw (place-here, place-left) (fits .own) in
+                (own, omega (arith, tallies-here, ticks-left, fits .own-ticks), omega (arith, tallies-here, ticks-left, fits .lent-ticks))
+
+            spent-fits : g .spent ≤ capacityOf (spareAt 0 (map spareOf (slice (c .head) (s .count) ss)))
+            spent-fits = rw spares-shown (fits .spent)
+
+            removed-fits : g .removed ≤ length (map spareOf (slice (c .head) (s .count) ss))
+            removed-fits = rw spares-shown (fits .removed)
+
+            turn-spent : g .spent ≤ Y .capacity
+            turn-spent = spent-in ss (c .head) (s .count) at few long ea (w .shows .head) g spent-fits removed-fits
+
+            head-fits : c .head + g .removed ≤ s .count
+            head-fits = head-in ss (c .head) (s .count) at few long ea (w .shows .head) g spent-fits removed-fits
+
+            now-here : c .now ≡ M .now
+            unfolding renewed
+            now-here = w .shows .now ∙ ap (λ (m : Model). m .now) (w .ready some)
+
+            burned-here : c .burned ≡ M .burned
+            unfolding renewed
+            burned-here = w .shows .burned ∙ ap (λ (m : Model). m .burned) (w .ready some)
+
+            idle-here : c .idle ≡ M .idle
+            unfolding renewed
+            idle-here = w .shows .idle ∙ ap (λ (m : Model). m .idle) (w .ready some)
+
+            turn-now : c .now + g .ticks < 2 ^ 64
+            turn-now = omega (arith, now-here, reached-sane count .time, ticks-left)
+
+            turn-later : (g .ticks ≤ c .left) × (c .now + g .ticks < 2 ^ 64) × (c .burned + g .burned < 2 ^ 64) × (c .idle + g .idle < 2 ^ 64) × (c .head + g .removed < 2 ^ 64)
+            turn-later =
+                let t = reached-sane count in
+                (fits .most, turn-now, omega (arith, burned-here, t .tally, t .time, ticks-left, fits .burned-ticks), omega (arith, idle-here, t .tally, t .time, ticks-left, fits .idle-ticks), omega (arith, head-fits, few))
+
+            -- the portion is one more that the walk has reached
+            next-ticks : ticksIn (count + 1) k (model s) ≡ ticksIn count k (model s) + g .ticks
+            next-ticks =
+                omega (arith, ticks-more count k (model s), ap (λ (n : ℕ). ticksIn 1 n M) (sym (w .left)), ticks-one (c .left) M some, fits .ticks)
+
+            next-reached : made g R ≡ reached s k (count + 1)
+            next-reached =
+                sym (fits .so)
+                ∙ sym (at-once M (reached-sane count) (g .ticks) (fits .some) (fits .span))
+                ∙ sym (advance-add (ticksIn count k (model s)) (g .ticks) (model s))
+                ∙ ap (λ (n : ℕ). advance n (model s)) (sym next-ticks)
+
+            next-shows : {a : GuestPlace} {y : SparePlace} → a ≡ ranPlace g B → y ≡ spentPlace g Y → Shows s (made g R) (set (set ps (c .last) r) (g .guest) a) (set ss at y) (laterBy g c)
+            unfolding renewed
+            next-shows {a} {y} e f =
+                let i = g .guest in
+                let ran : a ≡ guestPlace (ranBy g (guestAt i (R .guests))) = e ∙ ap (ranPlace g) place-here ∙ place-ran g (guestAt i (R .guests)) in
+                record {
+                  frame = ap (λ (m : Model). m .frame) (sym (w .ready some)) ∙ w .shows .frame;
+                  entries = map-changed entryOf (ranBy g) (entry-ran g) i (R .guests) ∙ same-entries;
+                  guests = ap₂ (λ (gs : List GuestPlace) (b : GuestPlace). set gs i b) turn-renewed ran ∙ sym (placed-changed (R .guests) i (fits .names) (ranBy g));
+                  spares = rw f (lost-in ss (c .head) (s .count) at few long ea (w .shows .head) g spent-fits removed-fits) ∙ ap (lostBy g) spares-shown;
+                  head = head-fits;
+                  now = ap (λ (n : ℕ). n + g .ticks) now-here;
+                  burned = ap (λ (n : ℕ). n + g .burned) burned-here;
+                  idle = ap (λ (n : ℕ). n + g .idle) idle-here;
+                }
+
+            next-lines : lines (count + 1) k (model s) ≡ lines count k (model s) ++ (lineFor M (c .left) ∷ [])
+            next-lines = lines-more count k (model s) ∙ ap (λ (ls : List Line). lines count k (model s) ++ ls) (ap (λ (n : ℕ). lines 1 n M) (sym (w .left)) ∙ lines-one (c .left) M some)
+
+            next-noted : {b : PortionPlace} → b ≡ portionPlace (line (c .now) (c .now + g .ticks) (useOf p)) → set qs count b ≡ padded portionPlaces noPortion (map portionPlace (lines (count + 1) k (model s)))
+            next-noted e =
+                let ls = lines count k (model s) in
+                let here : lineFor M (c .left) ≡ line (c .now) (c .now + g .ticks) (useOf p) = rw (turn-next, now-here, fits .ticks) in
+                ap₂ (λ (l : List PortionPlace) (v : PortionPlace). set l count v) (w .noted) (e ∙ ap portionPlace (sym here))
+                ∙ set-padded portionPlaces noPortion count (map portionPlace ls) (portionPlace (lineFor M (c .left))) (length-map ls portionPlace ∙ w .counted) room
+                ∙ ap (padded portionPlaces noPortion) (sym (map-append portionPlace ls (lineFor M (c .left) ∷ [])) ∙ ap (λ (l : List Line). map portionPlace l) (sym next-lines))
+
+            next-ready : but (made g R) (changed (g .guest) renew (made g R .guests)) (made g R .spares) ≡ renewed (reached s k (count + 1))
+            unfolding renewed
+            next-ready =
+                ap (λ (gs : List Guest). but (made g R) gs (made g R .spares)) (settled-but (g .guest) (ranBy g) (settled M (reached-sane count))) ∙ ap renewed next-reached
+
+            turn-more : {a : GuestPlace} {y : SparePlace} {b : PortionPlace} {d : Clock} {more : Bool} → a ≡ ranPlace g B → y ≡ spentPlace g Y
+                → b ≡ portionPlace (line (c .now) (c .now + g .ticks) (useOf p)) → d ≡ laterBy g c → more ≡ ltb 0 (d .left) && ltb (count + 1) portionPlaces
+                → Walking s k (set (set ps (c .last) r) (g .guest) a) (set ss at y) (set qs count b) d (count + 1) more
+            turn-more {a} {y} {b} {d} {more} ra ry rb rd rm =
+                subst (λ (d : Clock). Walking s k (set (set ps (c .last) r) (g .guest) a) (set ss at y) (set qs count b) d (count + 1) more) (sym rd)
+                (record {
+                  x = made g R;
+                  shows = next-shows ra ry;
+                  early = subst (λ (m : Model). All (λ g. deadlineOf g ≤ 2 ^ 62) (m .guests)) (sym next-reached) (reached-early (count + 1));
+                  exact = λ _. next-reached;
+                  ready = λ _. next-ready;
+                  left = omega (arith, w .left, next-ticks);
+                  last = turn-inside;
+                  long = length-set ss at y ∙ long;
+                  few = omega (arith, room);
+                  noted = next-noted rb;
+                  counted = ap length next-lines ∙ length-append (lines count k (model s)) (lineFor M (c .left) ∷ []) ∙ omega (arith, w .counted);
+                  goes = rm ∙ ap (λ (d : Clock). ltb 0 (d .left) && ltb (count + 1) portionPlaces) rd;
+                })
+
+            pub turn : Turned s k ps ss qs c count r at p g
+            turn = record { inside = turn-inside; ran = turn-ran; spent = turn-spent; now = turn-now; later = turn-later; more = turn-more }
+
+  -- what the loop's bounds need of it
+  pub bounds : {ps : List GuestPlace} {ss : List SparePlace} {qs : List PortionPlace} {c : Clock} {count : ℕ} {more : Bool} → Walking s k ps ss qs c count more
+      → (s .table .count ≤ guestPlaces) × (c .last < s .table .count) × (count ≤ portionPlaces) × Walking s k ps ss qs c count more
+  bounds w = (table-good s h .count-high, w .last, w .few, w)
+
+  -- ---- behind the last portion
+
+  module _ {ps : List GuestPlace} {ss : List SparePlace} {qs : List PortionPlace} {c : Clock} {count : ℕ} (w : Walking s k ps ss qs c count false) where
+    may : MayAdvance s k
+    unfolding model
+    may = record { whole = h; time = time }
+
+    pub last-head : (c .head ≤ s .count) × (s .count ≤ sparePlaces)
+    last-head = (w .shows .head, points s h .few)
+
+    -- nothing is left, or no place
+    over : 0 < c .left → portionPlaces ≤ count
+    over l = ltb-false count portionPlaces (and-second (lt-ltb 0 (c .left) l) (sym (w .goes)))
+
+    rest : portionPlaces ≡ count + (portionPlaces - count)
+    rest = omega (arith, w .few)
+
+    last-ticks : ticksIn portionPlaces k (model s) ≡ ticksIn count k (model s)
+    last-ticks =
+        by-ltb (λ _. ticksIn portionPlaces k (model s) ≡ ticksIn count k (model s)) 0 (c .left)
+        (λ l. let full : portionPlaces ≡ count = omega (arith, over l, w .few) in ap (λ (n : ℕ). ticksIn n k (model s)) full)
+        (λ l. let all : ticksIn count k (model s) ≡ k = omega (arith, w .left, ticks-in-le count k (model s)) in ap (λ (n : ℕ). ticksIn n k (model s)) rest ∙ ticks-enough count (portionPlaces - count) k (model s) all)
+
+    last-lines : lines portionPlaces k (model s) ≡ lines count k (model s)
+    last-lines =
+        by-ltb (λ _. lines portionPlaces k (model s) ≡ lines count k (model s)) 0 (c .left)
+        (λ l. let full : portionPlaces ≡ count = omega (arith, over l, w .few) in ap (λ (n : ℕ). lines n k (model s)) full)
+        (λ l. let all : ticksIn count k (model s) ≡ k = omega (arith, w .left, ticks-in-le count k (model s)) in ap (λ (n : ℕ). lines n k (model s)) rest ∙ lines-enough count (portionPlaces - count) k (model s) all)
+
+    -- the state in the walk's variables
+    last-state : stateOf s ps ss c ≡ packed (w .x)
+    last-state =
+        let v = w .shows in
+        let x = w .x in
+        let count = sym (ap length (sym (v .spares)) ∙ length-map (slice (c .head) (s .count) ss) spareOf ∙ length-slice (c .head) (s .count) ss (omega (arith, w .long, points s h .few))) in
+        let spares = ap (padded sparePlaces noSparePlace) (sym (spare-places (slice (c .head) (s .count) ss)) ∙ ap (λ (l : List Spare). map sparePlace l) (v .spares)) in
+        let fields : _≡_ {A = State} (stateOf s ps ss c) (record { table = s .table; now = x .now; guests = placed (x .guests); count = length (x .spares); spares = listed (x .spares); burned = x .burned; idle = x .idle }) =
+        λ j. record { table = s .table; now = v .now j; guests = v .guests j; count = count j; spares = spares j; burned = v .burned j; idle = v .idle j } in
+        fields ∙ sym (packed-fields s h x (v .frame) (v .entries))
+
+    pub walking-end : {r : Walk} → r ≡ walkOf s ps ss qs c count → Walked s k r
+    walking-end e =
+        let there : w .x ≡ advance (ticksIn portionPlaces k (model s)) (model s) = w .exact (λ l. omega (arith, over l)) ∙ ap (λ (n : ℕ). advance n (model s)) (sym last-ticks) in
+        subst (Walked s k) (sym e)
+        (record {
+          answer = sym (advance-allowed s k may);
+          state = last-state ∙ ap packed there ∙ sym (walk-state s k may);
+          left = w .left ∙ ap (λ (n : ℕ). k - n) (sym last-ticks) ∙ sym (walk-left s k may);
+          count = sym (w .counted) ∙ ap length (sym last-lines ∙ sym (walk-lines s k may));
+          portions = w .noted ∙ ap (λ (l : List Line). padded portionPlaces noPortion (map portionPlace l)) (sym last-lines ∙ sym (walk-lines s k may));
+        })

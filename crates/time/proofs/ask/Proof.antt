@@ -1,0 +1,50 @@
+-- `time::ask` meets its contract: it says what the rules would do next.
+use mathlib.Core.Path.{_≡_, sym, _∙_}
+use mathlib.Core.Bool.{true}
+use borrow.Author.Tests.{not-true, not-false}
+use Rattle.rules.specs.Sound.{sound}
+use Rattle.time.proofs.Asking.{ask-refused, ask-told, ask-next}
+use borrow.Author.Needs.{needs}
+use Rattle.time.proofs.ask.Statement.{statement}
+use Rattle.time.proofs.ask.Tie as tie
+
+-- behind the test the state is sound
+holding : (c : tie.Else1) → sound (c .before .before .args .t1) ≡ true
+holding c = sym (c .before .is-sound .ensures) ∙ not-false _ (c .if1 .left)
+
+is-sound-requires : tie.Need-is-sound-requires
+is-sound-requires c κs = search needs
+
+returns : tie.Need-returns
+returns c = ask-refused (c .before .before .args .t1) (sym (c .before .is-sound .ensures) ∙ not-true _ (c .if1 .taken))
+
+guests-renewed-requires : tie.Need-guests-renewed-requires
+guests-renewed-requires c κs = holding (c .before)
+
+earliest-requires : tie.Need-earliest-requires
+earliest-requires c κs = search needs
+
+element-copy-out-first : tie.Need-element-copy-out-first
+element-copy-out-first c = search needs
+
+next-of-requires : tie.Need-next-of-requires
+next-of-requires c κs = search needs
+
+returns-2 : tie.Need-returns-2
+returns-2 c =
+    let g = c .before .before .before in
+    let a = g .before .before .before .before in
+    let e = g .before .before in
+    ask-told (a .args .t1) (holding e) (ask-next (a .args .t1) (holding e) (g .guests-renewed .ensures) (c .before .before .earliest .ensures) (c .next-of .ensures))
+
+pub ask-spec : {M : Type 1} → statement M
+ask-spec =
+    tie.close
+    (tie.spec
+    is-sound-requires
+    returns
+    guests-renewed-requires
+    earliest-requires
+    element-copy-out-first
+    next-of-requires
+    returns-2)

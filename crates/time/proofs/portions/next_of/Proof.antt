@@ -1,0 +1,38 @@
+-- `portions::next_of` meets its contract: the spare is taken where its deadline is at most the guest's.
+use native.Mathlib.Omega.{arith}
+use Rattle.order.specs.Choice.{pickOf}
+use Rattle.time.proofs.Charging.{spare-first, spare-later}
+use borrow.Author.Needs.{needs}
+use Rattle.time.proofs.portions.next_of.Statement.{statement}
+use Rattle.time.proofs.portions.next_of.Tie as tie
+
+enum-known-chosen : tie.Need-enum-known-chosen
+enum-known-chosen c = search needs
+
+enum-told : tie.Need-enum-told
+enum-told c = search needs
+
+returns : tie.Need-returns
+unfolding pickOf
+returns c = rw (c .before .enum-told .given .1, c .if1 .taken)
+
+returns-2 : tie.Need-returns-2
+unfolding pickOf
+returns-2 c = rw (c .before .enum-told .given .1, c .if1 .left)
+
+returns-3 : tie.Need-returns-3
+unfolding pickOf
+returns-3 c = rw (c .before .before .before .before .chosen .given .1, c .before .before .if2 .taken) (spare-first _ _ _ _ (omega arith))
+
+returns-4 : tie.Need-returns-4
+unfolding pickOf
+returns-4 c = rw (c .before .before .before .before .chosen .given .1, c .before .before .if2 .taken) (spare-later _ _ _ _ (omega arith))
+
+returns-5 : tie.Need-returns-5
+unfolding pickOf
+returns-5 c = rw (c .before .before .chosen .given .1, c .if2 .left)
+
+pub next-of-spec : {M : Type 1} → statement M
+next-of-spec =
+    tie.close
+    (tie.spec enum-known-chosen enum-told returns returns-2 returns-3 returns-4 returns-5)

@@ -1,0 +1,216 @@
+-- `walking::walked` meets its contract: between two portions the variables show the model that the walk has reached.
+use mathlib.Core.Path.{subst}
+use mathlib.Core.Bool.{Bool, true, false}
+use Prim.Native.Nat.{_≤_, _<_, _-_}
+use native.Mathlib.Omega.{arith}
+use Rattle.rules.specs.Limits.{guestPlaces, sparePlaces, portionPlaces}
+use Rattle.rules.specs.Calls.{portionOf}
+use Rattle.time.proofs.Turning.{Walking, walking-start, bounds, room, turn-fits, Turned, turn, last-head, walking-end}
+use borrow.Author.Needs.{needs}
+use Rattle.time.proofs.walking.walked.Statement.{statement}
+use Rattle.time.proofs.walking.walked.Tie as tie
+
+abbrev Inv-loop : tie.InvT-loop
+Inv-loop s k t entries guests₀ spares₀ portions₀ h₀ count₀ more₀ guests spares portions h count more =
+    (t .count ≤ guestPlaces) × (h .last < t .count) × (count ≤ portionPlaces) × Walking s k guests spares portions h count more
+
+abbrev μ-loop : tie.MeasureT-loop
+μ-loop s k t entries guests₀ spares₀ portions₀ h₀ count₀ more₀ guests spares portions h count more = portionPlaces - count
+
+-- in the loop there is more to walk
+module _ (c : tie.In-loop Inv-loop μ-loop) where
+  abbrev start : tie.Start Inv-loop μ-loop
+  start = c .before .before .before .before .before .before .before .before .before
+
+  going : Walking (start .args .s) (start .args .k) (c .before .loop .guests) (c .before .loop .spares) (c .before .loop .portions) (c .before .loop .h) (c .before .loop .count) true
+  going = subst (λ (more : Bool). Walking (start .args .s) (start .args .k) (c .before .loop .guests) (c .before .loop .spares) (c .before .loop .portions) (c .before .loop .h) (c .before .loop .count) more) (c .loop-test .taken) (c .before .loop .inv .3)
+
+-- once it is known what to charge, all that the turn needs follows
+module _ (c : tie.After-charge-of Inv-loop μ-loop) where
+  abbrev loop : tie.In-loop Inv-loop μ-loop
+  loop = c .before .before .before .before .before .before .before .before .before .before
+
+  turned : Turned (start loop .args .s) (start loop .args .k) (loop .before .loop .guests) (loop .before .loop .spares) (loop .before .loop .portions) (loop .before .loop .h) (loop .before .loop .count) (c .before .before .before .before .before .before .before .renewed .result) (c .before .before .before .before .before .spare-place .result) (portionOf (c .before .next-of .result)) (c .charge-of .result)
+  turned =
+      let place = c .before .before .before .before .before in
+      turn (start loop .args .s) (start loop .args .k) (start loop .pre .0) (start loop .pre .1) (going loop) (place .before .before .renewed .ensures) (place .before .earliest .ensures) (place .spare-place .ensures .1) (c .before .next-of .ensures) (c .charge-of .ensures)
+
+  guest-inside : c .charge-of .result .guest < guestPlaces
+  guest-inside = omega (arith, turned .inside, loop .before .loop .inv .0)
+
+-- and the next portion has a place
+portion-room : (c : tie.After-portion-of Inv-loop μ-loop) → loop (c .before .before .before .before) .before .loop .count < portionPlaces
+portion-room c =
+    let w = loop (c .before .before .before .before) in
+    room (start w .args .s) (start w .args .k) (start w .pre .0) (start w .pre .1) (going w)
+
+-- behind the loop there is not
+module _ (c : tie.After-loop Inv-loop μ-loop) where
+  abbrev first : tie.Start Inv-loop μ-loop
+  first = c .before .before .before .before .before .before .before .before .before
+
+  gone : Walking (first .args .s) (first .args .k) (c .before .loop .guests) (c .before .loop .spares) (c .before .loop .portions) (c .before .loop .h) (c .before .loop .count) false
+  gone = subst (λ (more : Bool). Walking (first .args .s) (first .args .k) (c .before .loop .guests) (c .before .loop .spares) (c .before .loop .portions) (c .before .loop .h) (c .before .loop .count) more) (c .loop-test .left) (c .before .loop .inv .3)
+
+  heads : (c .before .loop .h .head ≤ first .args .s .count) × (first .args .s .count ≤ sparePlaces)
+  heads = last-head (first .args .s) (first .args .k) (first .pre .0) (first .pre .1) gone
+
+begun-requires : tie.Need-begun-requires Inv-loop μ-loop
+begun-requires c κs = search needs
+
+no-portions-requires : tie.Need-no-portions-requires Inv-loop μ-loop
+no-portions-requires c κs = search needs
+
+started-requires : tie.Need-started-requires Inv-loop μ-loop
+started-requires c κs = search needs
+
+goes-on-requires : tie.Need-goes-on-requires Inv-loop μ-loop
+goes-on-requires c κs = search needs
+
+loop-holds : tie.Need-loop-holds Inv-loop μ-loop
+loop-holds c =
+    let a = c .before .before .before .before .before .before .before in
+    bounds (a .args .s) (a .args .k) (a .pre .0) (a .pre .1)
+    (walking-start (a .args .s) (a .args .k) (a .pre .0) (a .pre .1) (c .before .started .ensures) (c .before .before .before .before .begun .ensures) (c .before .before .no-portions .ensures) (c .goes-on .ensures))
+
+mul-e : tie.Need-mul-e Inv-loop μ-loop
+mul-e c = search needs
+
+array-copy-out-e : tie.Need-array-copy-out-e Inv-loop μ-loop
+array-copy-out-e c = search needs
+
+mul-g : tie.Need-mul-g Inv-loop μ-loop
+mul-g c = search needs
+
+array-copy-out-g : tie.Need-array-copy-out-g Inv-loop μ-loop
+array-copy-out-g c = search needs
+
+renewed-requires : tie.Need-renewed-requires Inv-loop μ-loop
+renewed-requires c κs = let w = c .before .before in turn-fits (start w .args .s) (start w .args .k) (start w .pre .0) (start w .pre .1) (going w)
+
+mul-guests : tie.Need-mul-guests Inv-loop μ-loop
+mul-guests c = search needs
+
+array-set-from-guests : tie.Need-array-set-from-guests Inv-loop μ-loop
+array-set-from-guests c = search needs
+
+earliest-requires : tie.Need-earliest-requires Inv-loop μ-loop
+earliest-requires c κs = search needs
+
+spare-place-requires : tie.Need-spare-place-requires Inv-loop μ-loop
+spare-place-requires c κs = search needs
+
+mul-x : tie.Need-mul-x Inv-loop μ-loop
+mul-x c = search needs
+
+array-copy-out-x : tie.Need-array-copy-out-x Inv-loop μ-loop
+array-copy-out-x c = search needs
+
+next-of-requires : tie.Need-next-of-requires Inv-loop μ-loop
+next-of-requires c κs = search needs
+
+charge-of-requires : tie.Need-charge-of-requires Inv-loop μ-loop
+charge-of-requires c κs = search needs
+
+mul-b : tie.Need-mul-b Inv-loop μ-loop
+mul-b c = record { fits = omega (arith, guest-inside c) }
+
+array-copy-out-b : tie.Need-array-copy-out-b Inv-loop μ-loop
+array-copy-out-b c = guest-inside c
+
+ran-requires : tie.Need-ran-requires Inv-loop μ-loop
+ran-requires c κs = turned (c .before) .ran
+
+mul-guests-2 : tie.Need-mul-guests-2 Inv-loop μ-loop
+mul-guests-2 c = record { fits = omega (arith, guest-inside (c .before .before)) }
+
+array-set-from-guests-2 : tie.Need-array-set-from-guests-2 Inv-loop μ-loop
+array-set-from-guests-2 c = guest-inside (c .before .before)
+
+spent-requires : tie.Need-spent-requires Inv-loop μ-loop
+spent-requires c κs = turned (c .before .before) .spent
+
+mul-spares : tie.Need-mul-spares Inv-loop μ-loop
+mul-spares c = search needs
+
+array-set-from-spares : tie.Need-array-set-from-spares Inv-loop μ-loop
+array-set-from-spares c = search needs
+
+portion-of-requires : tie.Need-portion-of-requires Inv-loop μ-loop
+portion-of-requires c κs = turned (c .before .before .before) .now
+
+mul-portions : tie.Need-mul-portions Inv-loop μ-loop
+mul-portions c = record { fits = omega (arith, portion-room c) }
+
+array-set-from-portions : tie.Need-array-set-from-portions Inv-loop μ-loop
+array-set-from-portions c = portion-room c
+
+later-requires : tie.Need-later-requires Inv-loop μ-loop
+later-requires c κs = turned (c .before .before .before .before) .later
+
+add-count : tie.Need-add-count Inv-loop μ-loop
+add-count c = record { fits = omega (arith, portion-room (c .before)) }
+
+goes-on-requires-2 : tie.Need-goes-on-requires-2 Inv-loop μ-loop
+goes-on-requires-2 c κs = search needs
+
+loop-less : tie.Need-loop-less Inv-loop μ-loop
+loop-less c = omega (arith, portion-room (c .before .before))
+
+loop-again : tie.Need-loop-again Inv-loop μ-loop
+loop-again c =
+    let q = c .before .before .before .before .before .before in
+    let a = start (loop q) in
+    bounds (a .args .s) (a .args .k) (a .pre .0) (a .pre .1)
+    (turned q .more (c .before .before .before .before .ran .ensures) (c .before .before .before .spent .ensures) (c .before .before .portion-of .ensures) (c .before .later .ensures) (c .goes-on2 .ensures))
+
+walk-of-requires : tie.Need-walk-of-requires Inv-loop μ-loop
+walk-of-requires c κs = heads c
+
+returns : tie.Need-returns Inv-loop μ-loop
+returns c =
+    let a = first (c .before) in
+    walking-end (a .args .s) (a .args .k) (a .pre .0) (a .pre .1) (gone (c .before)) (c .walk-of .ensures)
+
+pub walked-spec : {M : Type 1} → statement M
+walked-spec =
+    tie.close
+    (tie.spec
+    Inv-loop
+    μ-loop
+    begun-requires
+    no-portions-requires
+    started-requires
+    goes-on-requires
+    loop-holds
+    mul-e
+    array-copy-out-e
+    mul-g
+    array-copy-out-g
+    renewed-requires
+    mul-guests
+    array-set-from-guests
+    earliest-requires
+    spare-place-requires
+    mul-x
+    array-copy-out-x
+    next-of-requires
+    charge-of-requires
+    mul-b
+    array-copy-out-b
+    ran-requires
+    mul-guests-2
+    array-set-from-guests-2
+    spent-requires
+    mul-spares
+    array-set-from-spares
+    portion-of-requires
+    mul-portions
+    array-set-from-portions
+    later-requires
+    add-count
+    goes-on-requires-2
+    loop-less
+    loop-again
+    walk-of-requires
+    returns)

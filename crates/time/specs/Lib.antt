@@ -1,0 +1,3 @@
+-- What the functions of time owe one another.
+pub mod Charges
+pub mod Clocks

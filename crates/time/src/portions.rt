@@ -1,0 +1,148 @@
+// One portion: what comes next, and what so many ticks on it charge to whom.
+ghost use mathlib.Core.Path.{_≡_};
+ghost use Prim.Native.Nat.{_+_, _≤_, _<_, _^_, min};
+ghost use Rattle.rules.specs.Calls.{portionOf};
+ghost use Rattle.rules.specs.Steps.{portion};
+ghost use Rattle.order.specs.Choice.{pickOf};
+ghost use Rattle.time.specs.Charges.{firstOf, removedBy, blank, runCharge, chargeOf, ranPlace, spentPlace};
+use order::Chosen;
+use rules::Guest;
+use rules::Next;
+use rules::Source;
+use rules::Spare;
+
+// What is charged: so many ticks, to a guest's own budget and tallies, to the first spare, and to the processor's tallies. `removed` is 1
+// where the first spare is spent, and else 0.
+pub(crate) struct Charge {
+    pub(crate) ticks: u64,
+    pub(crate) guest: usize,
+    pub(crate) own: u64,
+    pub(crate) lent: u64,
+    pub(crate) spent: u64,
+    pub(crate) removed: usize,
+    pub(crate) burned: u64,
+    pub(crate) idle: u64,
+}
+
+// What the chosen guest and the first spare, if there is any, make the next tick use.
+pub(crate) fn next_of(chosen: Chosen, first: Spare, any: bool) -> Next
+    ensures { λ r. ⌜ portionOf r ≡ portion (pickOf chosen) (firstOf any first) ⌝ }
+{
+    let Chosen::Runs(i, d, c) = chosen else {
+        if any {
+            return Next::Burn(first.owner, first.deadline, first.capacity);
+        }
+        return Next::Nothing;
+    };
+    if any {
+        if first.deadline <= d {
+            return Next::Run(
+                i,
+                Source::SpareOf(first.owner),
+                first.deadline,
+                first.capacity,
+            );
+        }
+    }
+    Next::Run(i, Source::Own, d, c)
+}
+
+fn smaller(a: u64, b: u64) -> u64
+    ensures { λ r. ⌜ r ≡ min a b ⌝ }
+{
+    if a < b {
+        return a;
+    }
+    b
+}
+
+// A spare is spent where the ticks reach its capacity.
+fn removed_by(ticks: u64, capacity: u64) -> usize
+    ensures { λ r. ⌜ r ≡ removedBy ticks capacity ⌝ }
+{
+    if capacity <= ticks {
+        return 1;
+    }
+    0
+}
+
+// So many ticks, charged to nobody yet.
+fn blank(ticks: u64, guest: usize) -> Charge
+    ensures { λ r. ⌜ r ≡ blank ticks guest ⌝ }
+{
+    Charge {
+        ticks,
+        guest,
+        own: 0,
+        lent: 0,
+        spent: 0,
+        removed: 0,
+        burned: 0,
+        idle: 0,
+    }
+}
+
+fn run_charge(source: Source, i: usize, ticks: u64, removed: usize) -> Charge
+    ensures { λ r. ⌜ r ≡ runCharge source i ticks removed ⌝ }
+{
+    let c = blank(ticks, i);
+    match source {
+        Source::Own => Charge { own: ticks, ..c },
+        Source::SpareOf(_) => Charge {
+            lent: ticks,
+            spent: ticks,
+            removed,
+            ..c
+        },
+    }
+}
+
+// Where nobody runs, the charge names the guest that ran last: nothing is added to its numbers.
+pub(crate) fn charge_of(next: Next, left: u64, last: usize) -> Charge
+    ensures { λ r. ⌜ r ≡ chargeOf left last (portionOf next) ⌝ }
+{
+    match next {
+        Next::Run(i, source, _, span) => {
+            let ticks = smaller(left, span);
+            let removed = removed_by(ticks, span);
+            run_charge(source, i, ticks, removed)
+        }
+        Next::Burn(_, _, span) => {
+            let ticks = smaller(left, span);
+            let removed = removed_by(ticks, span);
+            let c = blank(ticks, last);
+            Charge {
+                spent: ticks,
+                removed,
+                burned: ticks,
+                ..c
+            }
+        }
+        Next::Nothing => {
+            let c = blank(left, last);
+            Charge { idle: left, ..c }
+        }
+    }
+}
+
+pub(crate) fn ran(g: Guest, c: Charge) -> Guest
+    requires { ⌜ (c .own ≤ g .left) × (g .own + c .own < 2 ^ 64) × (g .lent + c .lent < 2 ^ 64) ⌝ }
+    ensures { λ r. ⌜ r ≡ ranPlace c g ⌝ }
+{
+    Guest {
+        left: g.left - c.own,
+        own: g.own + c.own,
+        lent: g.lent + c.lent,
+        ..g
+    }
+}
+
+pub(crate) fn spent(x: Spare, c: Charge) -> Spare
+    requires { ⌜ c .spent ≤ x .capacity ⌝ }
+    ensures { λ r. ⌜ r ≡ spentPlace c x ⌝ }
+{
+    Spare {
+        capacity: x.capacity - c.spent,
+        ..x
+    }
+}

@@ -1,0 +1,227 @@
+// Walking portion by portion: renew, choose, charge so many ticks at once, and note the portion.
+ghost use mathlib.Core.Bool.{true, _&&_};
+ghost use mathlib.Core.Path.{_≡_};
+ghost use mathlib.Core.List.{map};
+ghost use Prim.Native.Nat.{_+_, _≤_, _<_, _^_};
+ghost use lib.Dec.{ltb};
+ghost use lib.ListN.{replicate};
+ghost use lib.Seq.{slice};
+ghost use Rattle.laws.specs.Lists.{padded};
+ghost use Rattle.rules.specs.Calls.{portionOf};
+ghost use Rattle.rules.specs.Limits.{sparePlaces, portionPlaces, lastTick};
+ghost use Rattle.rules.specs.Lines.{line, useOf};
+ghost use Rattle.rules.specs.Places.{model, noSparePlace};
+ghost use Rattle.rules.specs.Sound.{sound};
+ghost use Rattle.rules.specs.Walks.{usedOf, portionPlace, noPortion, Walked};
+ghost use Rattle.time.specs.Clocks.{placed, begunFrom, startedAt, laterBy, walkOf};
+use crate::portions::Charge;
+use crate::portions::charge_of;
+use crate::portions::next_of;
+use crate::portions::ran;
+use crate::portions::spent;
+use crate::renewal::guests_renewed;
+use crate::renewal::renewed;
+use rules::Answer;
+use rules::GUEST_PLACES;
+use rules::Guest;
+use rules::Next;
+use rules::PORTION_PLACES;
+use rules::Portion;
+use rules::SPARE_PLACES;
+use rules::Source;
+use rules::Spare;
+use rules::State;
+use rules::Used;
+use rules::Walk;
+
+// Where a walk stands: the tick, the ticks left, the processor's tallies, how many spares are spent, and who ran last.
+pub(crate) struct Clock {
+    pub(crate) now: u64,
+    pub(crate) left: u64,
+    pub(crate) burned: u64,
+    pub(crate) idle: u64,
+    pub(crate) head: usize,
+    pub(crate) last: usize,
+}
+
+// No tick, no renewal.
+fn begun(s: State, k: u64) -> [Guest; GUEST_PLACES]
+    requires { ⌜ sound s ≡ true ⌝ }
+    ensures { λ r. ⌜ r ≡ placed (begunFrom k (model s) .guests) ⌝ }
+{
+    if k == 0 {
+        return s.guests;
+    }
+    guests_renewed(s)
+}
+
+// The place of the first spare that is not spent, or any place where all are.
+fn spare_place(head: usize) -> usize
+    ensures { λ r. ⌜ (r < sparePlaces) × (head < sparePlaces → r ≡ head) ⌝ }
+{
+    if head < SPARE_PLACES {
+        return head;
+    }
+    0
+}
+
+fn later(h: Clock, c: Charge) -> Clock
+    requires { ⌜ (c .ticks ≤ h .left) × (h .now + c .ticks < 2 ^ 64) × (h .burned + c .burned < 2 ^ 64) × (h .idle + c .idle < 2 ^ 64) × (h .head + c .removed < 2 ^ 64) ⌝ }
+    ensures { λ r. ⌜ r ≡ laterBy c h ⌝ }
+{
+    Clock {
+        now: h.now + c.ticks,
+        left: h.left - c.ticks,
+        burned: h.burned + c.burned,
+        idle: h.idle + c.idle,
+        head: h.head + c.removed,
+        last: c.guest,
+    }
+}
+
+fn used_by(next: Next) -> Used
+    ensures { λ r. ⌜ r ≡ usedOf (useOf (portionOf next)) ⌝ }
+{
+    match next {
+        Next::Run(i, source, _, _) => match source {
+            Source::Own => Used::Own(i),
+            Source::SpareOf(owner) => Used::SpareOf(i, owner),
+        },
+        Next::Burn(owner, _, _) => Used::Burned(owner),
+        Next::Nothing => Used::Idle,
+    }
+}
+
+fn goes_on(left: u64, count: usize) -> bool
+    ensures { λ r. ⌜ r ≡ ltb 0 left && ltb count portionPlaces ⌝ }
+{
+    let more = 0 < left;
+    let room = count < PORTION_PLACES;
+    more & room
+}
+
+// The spares from the first that is not spent, moved to the front.
+fn spares_left(spares: [Spare; SPARE_PLACES], head: usize, count: usize) -> [Spare; SPARE_PLACES]
+    requires { ⌜ (head ≤ count) × (count ≤ sparePlaces) ⌝ }
+    ensures { λ r. ⌜ r ≡ padded sparePlaces noSparePlace (slice head count spares) ⌝ }
+{
+    let none = Spare {
+        deadline: 0,
+        owner: 0,
+        capacity: 0,
+    };
+    let mut left = [none; SPARE_PLACES];
+    let mut i = head;
+    while i < count {
+        let x = spares[i];
+        left[i - head] = x;
+        i = i + 1;
+    }
+    left
+}
+
+pub(crate) fn no_portions() -> [Portion; PORTION_PLACES]
+    ensures { λ r. ⌜ r ≡ replicate portionPlaces noPortion ⌝ }
+{
+    let none = Portion {
+        first: 0,
+        end: 0,
+        used: Used::Idle,
+    };
+    [none; PORTION_PLACES]
+}
+
+fn portion_of(next: Next, first: u64, ticks: u64) -> Portion
+    requires { ⌜ first + ticks < 2 ^ 64 ⌝ }
+    ensures { λ r. ⌜ r ≡ portionPlace (line first (first + ticks) (useOf (portionOf next))) ⌝ }
+{
+    let used = used_by(next);
+    Portion {
+        first,
+        end: first + ticks,
+        used,
+    }
+}
+
+fn started(s: State, k: u64) -> Clock
+    ensures { λ r. ⌜ r ≡ startedAt s k ⌝ }
+{
+    Clock {
+        now: s.now,
+        left: k,
+        burned: s.burned,
+        idle: s.idle,
+        head: 0,
+        last: 0,
+    }
+}
+
+// What a walk gives back of where it stands.
+fn walk_of(
+    s: State,
+    guests: [Guest; GUEST_PLACES],
+    spares: [Spare; SPARE_PLACES],
+    portions: [Portion; PORTION_PLACES],
+    h: Clock,
+    count: usize,
+) -> Walk
+    requires { ⌜ (h .head ≤ s .count) × (s .count ≤ sparePlaces) ⌝ }
+    ensures { λ r. ⌜ r ≡ walkOf s guests spares portions h count ⌝ }
+{
+    let rest = spares_left(spares, h.head, s.count);
+    let state = State {
+        now: h.now,
+        guests,
+        count: s.count - h.head,
+        spares: rest,
+        burned: h.burned,
+        idle: h.idle,
+        ..s
+    };
+    Walk {
+        answer: Answer::Went,
+        state,
+        left: h.left,
+        count,
+        portions,
+    }
+}
+
+// Soundness is not tested here, so that an advance of many walks tests it once.
+pub(crate) fn walked(s: State, k: u64) -> Walk
+    requires { ⌜ (sound s ≡ true) × (s .now + k ≤ lastTick) ⌝ }
+    ensures { λ r. ⌜ Walked s k r ⌝ }
+{
+    let t = s.table;
+    let entries = t.entries;
+    let mut guests = begun(s, k);
+    let mut spares = s.spares;
+    let mut portions = no_portions();
+    let mut h = started(s, k);
+    let mut count: usize = 0;
+    let mut more = goes_on(k, count);
+    while more {
+        let last = h.last;
+        let e = entries[last];
+        let g = guests[last];
+        let r = renewed(e, g);
+        guests[last] = r;
+        let chosen = order::earliest(guests, t.count);
+        let at = spare_place(h.head);
+        let x = spares[at];
+        let next = next_of(chosen, x, h.head < s.count);
+        let c = charge_of(next, h.left, last);
+        let i = c.guest;
+        let b = guests[i];
+        let a = ran(b, c);
+        guests[i] = a;
+        let y = spent(x, c);
+        spares[at] = y;
+        let p = portion_of(next, h.now, c.ticks);
+        portions[count] = p;
+        h = later(h, c);
+        count = count + 1;
+        more = goes_on(h.left, count);
+    }
+    walk_of(s, guests, spares, portions, h, count)
+}
