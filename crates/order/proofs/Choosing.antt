@@ -1,6 +1,6 @@
 -- The mask, grown guest by guest, and the choice, which skips the idle guests in front: what the loops know at i, and what a turn adds.
 use mathlib.Core.Path.{_≡_, refl, sym, ap, _∙_}
-use mathlib.Core.Bool.{cond}
+use mathlib.Core.Bool.{Bool, true, false, cond}
 use mathlib.Core.List.{List, [], _∷_, _++_, map, map-append, zipWith}
 use Prim.Native.Nat.{ℕ, zero, suc, _+_, _*_, _/_, _%_, _^_, _≤_, _<_, min}
 use native.Mathlib.Nat.{add-zero, zero-add, mod-eq-of-lt, mul-assoc, mul-le-mul-right, pow-suc}
@@ -8,19 +8,19 @@ use native.Mathlib.Numerals.{add-one}
 use native.Mathlib.Omega.{arith}
 use lib.Bits.{bitOr, or-shifted-r}
 use lib.Count.{ones, trailingZeros, under}
-use lib.Dec.{leb}
-use lib.ListN.{length, getD, take, drop, length-map, drop-of-length-le, List·getD-map}
+use lib.Dec.{leb, eqb·suc-zero}
+use lib.ListN.{length, getD, take, drop, length-map, length-take, drop-of-length-le, List·getD-map}
 use lib.Pow.{pow-mono, pow-lt}
 use lib.Seq.{take-suc, take-all, drop-cons, drop-nil, getD-take, length-take-le}
-use borrow.Author.Tests.{le-leb, lt-leb}
-use Rattle.laws.proofs.Cases.{by-leb}
+use borrow.Author.Tests.{ne-eqb, le-leb, lt-leb, lt-ltb, le-ltb}
+use Rattle.laws.proofs.Cases.{by-leb, by-ltb}
 use Rattle.rules.specs.declared.Entry.{Entry}
 use Rattle.rules.specs.declared.Guest.{Guest as GuestPlace}
 use Rattle.rules.specs.Model.{Guest, guest, bitOf, maskOf, activeCount}
-use Rattle.rules.specs.Places.{guestOf}
+use Rattle.rules.specs.Places.{guestOf, noGuestPlace}
 use Rattle.rules.specs.Steps.{Pick, nobody, runs, ready, sooner, earliest}
 use Rattle.rules.proofs.Mask.{bit-small, ones-of-mask}
-use Rattle.order.specs.Choice.{shown, inUse}
+use Rattle.order.specs.Choice.{shown, inUse, beats}
 
 -- ---- an active guest
 
@@ -63,6 +63,10 @@ pub in-use-all : (places : ℕ) {n : ℕ} (count : ℕ) (gs : List GuestPlace) �
 in-use-all places {n} count gs e h =
     by-leb (λ _. inUse n gs ≡ inUse count gs) count places (λ l. let few : n ≡ count = omega arith in ap (λ (k : ℕ). inUse k gs) few)
     (λ l. ap (λ (xs : List GuestPlace). map shown xs) (take-all n gs (omega arith) ∙ sym (take-all count gs (omega arith))))
+
+-- and no more guests are in use than there are places
+pub in-use-few : (digits : ℕ) (count : ℕ) (gs : List GuestPlace) (places : ℕ) → length gs ≡ places → places ≤ digits → length (inUse count gs) ≤ digits
+in-use-few digits count gs places e h = omega (arith, length-map (take count gs) shown, length-take count gs)
 
 -- ---- the mask
 
@@ -151,22 +155,83 @@ from-lowest (suc digits) i (guest Q T (suc jobs) c d own lent ∷ gs) h =
     let g = guest Q T (suc jobs) c d own lent in
     rw (lowest-step digits g gs) (ap (λ (k : ℕ). earliest k (g ∷ gs)) (add-zero i))
 
--- of the first n guests, the best of those before i and the earliest of the others make the earliest
-pub record Searched (gs : List GuestPlace) (n i : ℕ) (best : Pick) : Type 0 where
-  pub so : sooner best (earliest i (drop i (inUse n gs))) ≡ earliest 0 (inUse n gs)
+-- so the search may start at it
+pub lowest-first : (digits : ℕ) (gs : List Guest) {from : ℕ} → from ≡ trailingZeros digits (maskOf gs) → length gs ≤ digits → earliest from (drop from gs) ≡ earliest 0 gs
+lowest-first digits gs e h = rw e (rw zero-add at (from-lowest digits 0 gs h))
 
-pub searched-start : (digits : ℕ) (gs : List GuestPlace) (n mask : ℕ) → mask ≡ maskOf (inUse n gs) → n ≤ length gs → n ≤ digits → Searched gs n (trailingZeros digits mask) nobody
-searched-start digits gs n mask e h k = record { so = rw e (rw zero-add at (from-lowest digits 0 (inUse n gs) (omega (arith, length-in-use n gs h)))) }
+-- a guest in its place, with so many jobs
+abbrev with-jobs : GuestPlace → ℕ → GuestPlace
+with-jobs g j = record { jobs = j; left = g .left; deadline = g .deadline; own = g .own; lent = g .lent }
 
-module _ {gs : List GuestPlace} {n i : ℕ} {best : Pick} (s : Searched gs n i best) (inside : n ≤ length gs) where
-  pub searched-more : (z : GuestPlace) {next both : Pick} → next ≡ ready i (shown (getD gs i z)) → both ≡ sooner best next → i < n → Searched gs n (i + 1) both
-  searched-more z e f h =
-      let at : getD (inUse n gs) i (shown z) ≡ shown (getD gs i z) = List·getD-map shown (take n gs) i z ∙ ap shown (getD-take n gs i z h) in
-      record {
-        so = rw (f, e, add-one i, sooner-assoc) (rw (drop-cons (inUse n gs) i (shown z) (omega (arith, length-in-use n gs inside)), at) at (s .so));
-      }
+-- the better of two guests is the sooner of their picks
+better-by : (i k : ℕ) (b g : GuestPlace) (m n : ℕ)
+    → let p = with-jobs b m in
+    let q = with-jobs g n in
+    ready (cond (beats p q) k i) (shown (cond (beats p q) q p)) ≡ sooner (ready i (shown p)) (ready k (shown q))
+better-by i k b g m zero = sym (sooner-nobody (ready i (shown (with-jobs b m))))
+better-by i k b g zero (suc n) = rw (eqb·suc-zero n)
+better-by i k b g (suc m) (suc n) =
+    let p = with-jobs b (suc m) in
+    let q = with-jobs g (suc n) in
+    rw (eqb·suc-zero n, eqb·suc-zero m)
+    (by-ltb (λ t. ready (cond t k i) (shown (cond t q p)) ≡ sooner (ready i (shown p)) (ready k (shown q))) (g .deadline) (b .deadline)
+    (λ l. second-runs i (b .deadline) (b .left) k (g .deadline) (g .left) l)
+    (λ l. first-runs i (b .deadline) (b .left) k (g .deadline) (g .left) l))
 
-  pub searched-end : n ≤ i → best ≡ earliest 0 (inUse n gs)
-  searched-end h =
-      let passed : length (inUse n gs) ≤ i = omega (arith, length-in-use n gs inside) in
-      sym (sooner-nobody best) ∙ rw (drop-of-length-le (inUse n gs) passed) at (s .so)
+-- what decides between two guests, as the code asks it
+module _ (i best : ℕ) (b g : GuestPlace) (active : g .jobs ≡ 0 → ⊥) where
+  pub beats-idle : b .jobs ≡ 0 → i ≡ cond (beats b g) i best
+  beats-idle e = rw (ne-eqb (g .jobs) 0 active, e)
+
+  pub beats-later : (b .jobs ≡ 0 → ⊥) → g .deadline < b .deadline → i ≡ cond (beats b g) i best
+  beats-later n l = rw (ne-eqb (g .jobs) 0 active, ne-eqb (b .jobs) 0 n, lt-ltb (g .deadline) (b .deadline) l)
+
+  pub beats-not : (b .jobs ≡ 0 → ⊥) → b .deadline ≤ g .deadline → best ≡ cond (beats b g) i best
+  beats-not n l = rw (ne-eqb (g .jobs) 0 active, ne-eqb (b .jobs) 0 n, le-ltb (g .deadline) (b .deadline) l)
+
+-- guest i, and an empty place where there is none
+abbrev pub here : List GuestPlace → ℕ → GuestPlace
+here gs i = getD gs i noGuestPlace
+
+here-cond : (gs : List GuestPlace) (t : Bool) (i k : ℕ) → here gs (cond t i k) ≡ cond t (here gs i) (here gs k)
+here-cond gs true i k = refl
+here-cond gs false i k = refl
+
+-- of the guests from a number on, the best before i and the earliest of the others make the earliest
+pub record Searched (gs : List GuestPlace) (from n best i : ℕ) : Type 0 where
+  pub so : sooner (ready best (shown (here gs best))) (earliest i (drop i (inUse n gs))) ≡ earliest from (drop from (inUse n gs))
+
+module _ (gs : List GuestPlace) (n : ℕ) (inside : n ≤ length gs) where
+  -- the guests from i on begin with guest i
+  from-here : (i : ℕ) → i < n → earliest i (drop i (inUse n gs)) ≡ sooner (ready i (shown (here gs i))) (earliest (suc i) (drop (suc i) (inUse n gs)))
+  from-here i h =
+      let at : getD (inUse n gs) i (shown noGuestPlace) ≡ shown (here gs i) = List·getD-map shown (take n gs) i noGuestPlace ∙ ap shown (getD-take n gs i noGuestPlace h) in
+      rw (drop-cons (inUse n gs) i (shown noGuestPlace) (omega (arith, length-in-use n gs inside)), at)
+
+  pub searched-start : (from : ℕ) → from < n → Searched gs from n from (from + 1)
+  searched-start from h = record { so = rw (add-one from) (sym (from-here from h)) }
+
+  module _ {from best i : ℕ} (s : Searched gs from n best i) where
+    pub searched-more : {next : ℕ} → next ≡ cond (beats (here gs best) (here gs i)) i best → i < n → Searched gs from n next (i + 1)
+    searched-more e h =
+        let b = here gs best in
+        let g = here gs i in
+        let others = earliest (suc i) (drop (suc i) (inUse n gs)) in
+        record {
+          so = rw (add-one i, e, here-cond gs (beats b g) i best)
+              (ap (λ (p : Pick). sooner p others) (better-by best i b g (b .jobs) (g .jobs)) ∙ sooner-assoc (ready best (shown b)) (ready i (shown g)) others ∙ ap (sooner (ready best (shown b))) (sym (from-here i h)) ∙ s .so);
+        }
+
+    pub searched-end : n ≤ i → ready best (shown (here gs best)) ≡ earliest from (drop from (inUse n gs))
+    searched-end h =
+        let passed : length (inUse n gs) ≤ i = omega (arith, length-in-use n gs inside) in
+        sym (sooner-nobody (ready best (shown (here gs best)))) ∙ rw (drop-of-length-le (inUse n gs) passed) at (s .so)
+
+  -- and none of them where there is none
+  pub searched-none : (from : ℕ) → n ≤ from → nobody ≡ earliest from (drop from (inUse n gs))
+  searched-none from h = let passed : length (inUse n gs) ≤ from = omega (arith, length-in-use n gs inside) in rw (drop-of-length-le (inUse n gs) passed)
+
+-- either of two places is a place
+pub either-inside : (t : Bool) (i k : ℕ) {n next : ℕ} → next ≡ cond t i k → i < n → k < n → next < n
+either-inside true i k e h l = omega arith
+either-inside false i k e h l = omega arith

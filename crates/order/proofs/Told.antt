@@ -16,11 +16,16 @@ unfolding pickOf back
 back-pick Nobody = refl
 back-pick (Runs i d c) = refl
 
+same-chosen : (a b : Chosen) → pickOf a ≡ pickOf b → a ≡ b
+same-chosen a b e = sym (back-pick a) ∙ ap back e ∙ back-pick b
+
 pub one-answer : OneAnswer
 one-answer =
     record {
       order = λ x y a b p q. p ∙ sym q;
       mask = λ guests count a b p q. p .0 ∙ sym (q .0);
       ones = λ mask a b p q. p ∙ sym q;
-      earliest = λ guests count a b p q. sym (back-pick a) ∙ ap back (p ∙ sym q) ∙ back-pick b;
+      lowest = λ guests count a b p q. p ∙ sym q;
+      earliest-from = λ guests from count a b p q. same-chosen a b (p ∙ sym q);
+      earliest = λ guests count a b p q. same-chosen a b (p ∙ sym q);
     }

@@ -3,8 +3,8 @@ use mathlib.Core.Path.{_≡_}
 use mathlib.Core.Bool.{Bool}
 use mathlib.Core.List.{List}
 use Prim.Native.Nat.{ℕ, _^_, _<_}
-use lib.Count.{ones}
-use lib.ListN.{length}
+use lib.Count.{ones, trailingZeros}
+use lib.ListN.{drop}
 use Rattle.rules.specs.declared.Guest.{Guest as GuestPlace}
 use Rattle.rules.specs.declared.Spare.{Spare as SparePlace}
 use Rattle.rules.specs.Limits.{guestPlaces}
@@ -26,6 +26,14 @@ MaskTold guests count r = (r ≡ maskOf (inUse count guests)) × (r < 2 ^ guestP
 abbrev pub OnesTold : ℕ → ℕ → Type 0
 OnesTold mask r = r ≡ ones mask
 
+-- the lowest active guest, by the zeros at the mask's end; 32 where there is none
+abbrev pub LowestTold : List GuestPlace → ℕ → ℕ → Type 0
+LowestTold guests count r = r ≡ trailingZeros 32 (maskOf (inUse count guests))
+
+-- step 2 of a tick, of the guests from number `from` up to `count`
+abbrev pub EarliestFromTold : List GuestPlace → ℕ → ℕ → Chosen → Type 0
+EarliestFromTold guests from count r = pickOf r ≡ earliest from (drop from (inUse count guests))
+
 -- step 2 of a tick, of the first `count` guests: "The active guest with the smallest d runs; equal deadlines, the lowest number."
 abbrev pub EarliestTold : List GuestPlace → ℕ → Chosen → Type 0
 EarliestTold guests count r = pickOf r ≡ earliest 0 (inUse count guests)
@@ -35,4 +43,7 @@ pub record OneAnswer : Type 0 where
   pub order : (x y : SparePlace) (a b : Bool) → OrderTold x y a → OrderTold x y b → a ≡ b
   pub mask : (guests : List GuestPlace) (count a b : ℕ) → MaskTold guests count a → MaskTold guests count b → a ≡ b
   pub ones : (mask a b : ℕ) → OnesTold mask a → OnesTold mask b → a ≡ b
+  pub lowest : (guests : List GuestPlace) (count a b : ℕ) → LowestTold guests count a → LowestTold guests count b → a ≡ b
+  pub earliest-from :
+      (guests : List GuestPlace) (from count : ℕ) (a b : Chosen) → EarliestFromTold guests from count a → EarliestFromTold guests from count b → a ≡ b
   pub earliest : (guests : List GuestPlace) (count : ℕ) (a b : Chosen) → EarliestTold guests count a → EarliestTold guests count b → a ≡ b

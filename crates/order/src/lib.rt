@@ -1,11 +1,12 @@
 // Who comes first: of two spares, and of the active guests, with the mask that shows who is active.
+ghost use mathlib.Core.Bool.{cond};
 ghost use mathlib.Core.Path.{_≡_};
 ghost use Prim.Native.Nat.{min};
 ghost use Rattle.rules.specs.Limits.{guestPlaces};
 ghost use Rattle.rules.specs.Model.{bitOf};
-ghost use Rattle.rules.specs.Steps.{ready, sooner};
-ghost use Rattle.order.specs.Choice.{shown, pickOf};
-ghost use Rattle.order.specs.Told.{OrderTold, MaskTold, OnesTold, EarliestTold};
+ghost use Rattle.rules.specs.Steps.{ready};
+ghost use Rattle.order.specs.Choice.{shown, pickOf, beats};
+ghost use Rattle.order.specs.Told.{OrderTold, MaskTold, OnesTold, LowestTold, EarliestFromTold, EarliestTold};
 use rules::GUEST_PLACES;
 use rules::Guest;
 use rules::Spare;
@@ -77,35 +78,54 @@ fn ready(i: usize, g: Guest) -> Chosen
     Chosen::Runs(i, g.deadline, g.left)
 }
 
-// Equal deadlines stay with the best so far, whose number is lower.
-fn sooner(best: Chosen, next: Chosen) -> Chosen
-    ensures { λ r. ⌜ pickOf r ≡ sooner (pickOf best) (pickOf next) ⌝ }
+// The lowest active guest. An empty mask has 32 zeros at its end, more than there are guests.
+pub fn lowest(guests: [Guest; GUEST_PLACES], count: usize) -> usize
+    ensures { λ r. ⌜ LowestTold guests count r ⌝ }
 {
-    let Chosen::Runs(_, d, _) = best else {
-        return next;
-    };
-    let Chosen::Runs(_, e, _) = next else {
+    let mask = mask_of(guests, count);
+    u32::trailing_zeros(mask) as usize
+}
+
+// An idle guest is never the better one, and equal deadlines stay with the best so far, whose number is lower.
+fn better(best: usize, b: Guest, i: usize, g: Guest) -> usize
+    ensures { λ r. ⌜ r ≡ cond (beats b g) i best ⌝ }
+{
+    if g.jobs == 0 {
         return best;
-    };
-    if e < d {
-        return next;
+    }
+    if b.jobs == 0 {
+        return i;
+    }
+    if g.deadline < b.deadline {
+        return i;
     }
     best
 }
 
-// The search starts at the lowest active guest. An empty mask has 32 zeros at its end, more than there are guests: then nobody runs.
+// Who runs of the guests with the number `from` or a higher one.
+pub fn earliest_from(guests: [Guest; GUEST_PLACES], from: usize, count: usize) -> Chosen
+    ensures { λ r. ⌜ EarliestFromTold guests from count r ⌝ }
+{
+    let places = places_in_use(count);
+    if places <= from {
+        return Chosen::Nobody;
+    }
+    let mut best = from;
+    let mut i = from + 1;
+    while i < places {
+        let b = guests[best];
+        let g = guests[i];
+        best = better(best, b, i, g);
+        i = i + 1;
+    }
+    let g = guests[best];
+    ready(best, g)
+}
+
+// The search starts at the lowest active guest.
 pub fn earliest(guests: [Guest; GUEST_PLACES], count: usize) -> Chosen
     ensures { λ r. ⌜ EarliestTold guests count r ⌝ }
 {
-    let places = places_in_use(count);
-    let mask = mask_of(guests, places);
-    let mut best = Chosen::Nobody;
-    let mut i = u32::trailing_zeros(mask) as usize;
-    while i < places {
-        let g = guests[i];
-        let next = ready(i, g);
-        best = sooner(best, next);
-        i = i + 1;
-    }
-    best
+    let from = lowest(guests, count);
+    earliest_from(guests, from, count)
 }

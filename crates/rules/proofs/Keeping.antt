@@ -245,7 +245,7 @@ tallies-renew (guest Q T zero c d own lent) = refl
 tallies-renew (guest Q T (suc jobs) zero d own lent) = refl
 tallies-renew (guest Q T (suc jobs) (suc c) d own lent) = refl
 
-bit-renew : (g : Guest) → bitOf (renew g) ≡ bitOf g
+pub bit-renew : (g : Guest) → bitOf (renew g) ≡ bitOf g
 bit-renew (guest Q T zero c d own lent) = refl
 bit-renew (guest Q T (suc jobs) zero d own lent) = refl
 bit-renew (guest Q T (suc jobs) (suc c) d own lent) = refl

@@ -2,10 +2,11 @@
 use mathlib.Core.Path.{_≡_, refl, sym, subst, ap, ap₂, _∙_}
 use mathlib.Core.Bool.{Bool, true, false, _&&_}
 use mathlib.Core.List.{List, [], _∷_, _++_, map, map-append}
-use Prim.Native.Nat.{ℕ, zero, suc, _+_, _-_, _^_, _≤_, _<_}
+use Prim.Native.Nat.{ℕ, zero, suc, _+_, _*_, _-_, _^_, _≤_, _<_}
 use native.Mathlib.Nat.{sub-zero}
 use native.Mathlib.Numerals.{add-one}
 use native.Mathlib.Omega.{arith}
+use lib.Count.{trailingZeros}
 use lib.Dec.{ltb}
 use lib.ListN.{length, getD, take, drop, set, replicate, length-map, length-append, length-set, List·getD-map}
 use lib.Seq.{slice, slice-cons, slice-empty, length-slice, drop-drop}
@@ -13,7 +14,7 @@ use borrow.Author.Tests.{ltb-true, ltb-false, lt-ltb}
 use Rattle.laws.specs.Lists.{total, changed, padded}
 use Rattle.laws.proofs.Cases.{and-both, and-second, by-ltb}
 use Rattle.laws.proofs.Elements.{All, none, each, all-at, all-map, all-imp, map-changed, map-same, length-changed, total-map}
-use Rattle.laws.proofs.Places.{take-padded, set-padded}
+use Rattle.laws.proofs.Places.{length-padded, take-padded, set-padded}
 use Rattle.rules.specs.declared.Entry.{Entry}
 use Rattle.rules.specs.declared.Guest.{Guest as GuestPlace}
 use Rattle.rules.specs.declared.Spare.{Spare as SparePlace}
@@ -22,7 +23,7 @@ use Rattle.rules.specs.declared.State.{State}
 use Rattle.rules.specs.declared.Walk.{Walk}
 use Rattle.rules.specs.Limits.{guestPlaces, sparePlaces, portionPlaces, lastTick, longestFrame, deadlineBound}
 use Rattle.rules.specs.Lines.{Line, line, useOf, ticksOn, lineFor, lines}
-use Rattle.rules.specs.Model.{Guest, guest, Spare, spare, Model, leftOf, deadlineOf, talliesOf, capacityOf, noGuest, guestAt, spareAt}
+use Rattle.rules.specs.Model.{Guest, guest, Spare, spare, Model, bitOf, maskOf, leftOf, deadlineOf, talliesOf, capacityOf, noGuest, guestAt, spareAt}
 use Rattle.rules.specs.Places.{guestOf, spareOf, model, entryOf, guestPlace, sparePlace, noGuestPlace, noSparePlace, packed}
 use Rattle.rules.specs.Sound.{sound}
 use Rattle.rules.specs.Steps.{but, renew, renewed, Pick, nobody, runs, earliest, Portion, portion, next, advance, ask}
@@ -31,11 +32,12 @@ use Rattle.rules.specs.Walks.{ticksIn, portionPlace, noPortion, Walked}
 use Rattle.rules.proofs.Calling.{MayAdvance, advance-allowed}
 use Rattle.rules.proofs.Packing.{spare-places}
 use Rattle.rules.proofs.Facts.{GuestGood, Sane, points, sane-model, guests-count}
-use Rattle.rules.proofs.Keeping.{entry-renew, tallies-renew}
+use Rattle.rules.proofs.Keeping.{entry-renew, tallies-renew, bit-renew}
 use Rattle.rules.proofs.Spans.{settled, ask-uses, span-positive, at-once}
 use Rattle.rules.proofs.Ticking.{advance-now, advance-add, advance-sane}
 use Rattle.rules.proofs.Walks.{ticks-in-le, lines-more, ticks-more, ticks-enough, lines-enough, walk-lines, walk-left, walk-state}
 use Rattle.order.specs.Choice.{shown, inUse}
+use Rattle.order.proofs.Choosing.{lowest-first, in-use-few}
 use Rattle.time.specs.declared.portions.Charge.{Charge}
 use Rattle.time.specs.Charges.{firstOf, chargeOf, ranPlace, spentPlace}
 use Rattle.time.specs.declared.walking.Clock.{Clock}
@@ -87,6 +89,31 @@ earliest-placed : (i : ℕ) (gs : List Guest) → earliest i (map shown (map gue
 earliest-placed i [] = refl
 earliest-placed i (guest Q T zero c d own lent ∷ gs) = earliest-placed (suc i) gs
 earliest-placed i (guest Q T (suc jobs) c d own lent ∷ gs) = rw (earliest-placed (suc i) gs)
+
+mask-placed : (gs : List Guest) → maskOf (map shown (map guestPlace gs)) ≡ maskOf gs
+mask-placed [] = refl
+mask-placed (guest Q T zero c d own lent ∷ gs) = rw (mask-placed gs)
+mask-placed (guest Q T (suc jobs) c d own lent ∷ gs) = rw (mask-placed gs)
+
+-- the mask of guests in places
+pub mask-in : (n : ℕ) (gs : List Guest) {guests : List GuestPlace} → guests ≡ placed gs → length gs ≡ n → maskOf (inUse n guests) ≡ maskOf gs
+mask-in n gs e l =
+    ap (λ (ps : List GuestPlace). maskOf (inUse n ps)) e
+    ∙ ap (λ (ps : List GuestPlace). maskOf (map shown ps)) (take-padded guestPlaces noGuestPlace n (map guestPlace gs) (length-map gs guestPlace ∙ l))
+    ∙ mask-placed gs
+
+-- a mask is its guests' bits
+abbrev ofBits : List ℕ → ℕ
+ofBits [] = 0
+ofBits (b ∷ bs) = b + 2 * ofBits bs
+
+of-bits : (gs : List Guest) → maskOf gs ≡ ofBits (map bitOf gs)
+of-bits [] = refl
+of-bits (g ∷ gs) = rw (of-bits gs)
+
+-- so who is active decides it
+same-mask : (gs hs : List Guest) → map bitOf gs ≡ map bitOf hs → maskOf gs ≡ maskOf hs
+same-mask gs hs e = of-bits gs ∙ ap ofBits e ∙ sym (of-bits hs)
 
 -- the choice among guests in places
 pub earliest-in : (n : ℕ) (gs : List Guest) {guests : List GuestPlace} → guests ≡ placed gs → length gs ≡ n → earliest 0 (inUse n guests) ≡ earliest 0 gs
@@ -174,6 +201,10 @@ settled-one (suc i) (each e es) = rw (settled-one i es)
 entry-ran : (c : Charge) (g : Guest) → entryOf (ranBy c g) ≡ entryOf g
 entry-ran c (guest Q T jobs l d own lent) = refl
 
+bit-ran : (c : Charge) (g : Guest) → bitOf (ranBy c g) ≡ bitOf g
+bit-ran c (guest Q T zero l d own lent) = refl
+bit-ran c (guest Q T (suc jobs) l d own lent) = refl
+
 place-ran : (c : Charge) (g : Guest) → ranPlace c (guestPlace g) ≡ guestPlace (ranBy c g)
 place-ran c (guest Q T jobs l d own lent) = refl
 
@@ -214,10 +245,11 @@ abbrev pub reached : State → ℕ → ℕ → Model
 reached s k count = advance (ticksIn count k (model s)) (model s)
 
 -- the variables show a model: the one reached, or before the first portion that one renewed; who ran last may be still to renew
-pub record Walking (s : State) (k : ℕ) (ps : List GuestPlace) (ss : List SparePlace) (qs : List PortionPlace) (h : Clock) (count : ℕ) (more : Bool) : Type 0 where
+pub record Walking (s : State) (k from : ℕ) (ps : List GuestPlace) (ss : List SparePlace) (qs : List PortionPlace) (h : Clock) (count : ℕ) (more : Bool) : Type 0 where
   pub x : Model
   pub shows : Shows s x ps ss h
   pub early : All (λ g. deadlineOf g ≤ 2 ^ 62) (x .guests)
+  pub lowest : from ≡ trailingZeros 32 (maskOf (x .guests))
   pub exact : (0 < h .left → 0 < count) → x ≡ reached s k count
   pub ready : 0 < h .left → but x (changed (h .last) renew (x .guests)) (x .spares) ≡ renewed (reached s k count)
   pub left : h .left ≡ k - ticksIn count k (model s)
@@ -229,7 +261,7 @@ pub record Walking (s : State) (k : ℕ) (ps : List GuestPlace) (ss : List Spare
   pub goes : more ≡ ltb 0 (h .left) && ltb count portionPlaces
 
 -- what one portion gives the code: r is the guest that ran last, renewed; p is what comes next, and g what is charged
-pub record Turned (s : State) (k : ℕ) (ps : List GuestPlace) (ss : List SparePlace) (qs : List PortionPlace) (c : Clock) (count : ℕ) (r : GuestPlace) (at : ℕ) (p : Portion) (g : Charge) : Type 0 where
+pub record Turned (s : State) (k from : ℕ) (ps : List GuestPlace) (ss : List SparePlace) (qs : List PortionPlace) (c : Clock) (count : ℕ) (r : GuestPlace) (at : ℕ) (p : Portion) (g : Charge) : Type 0 where
   -- the guest that is charged, and the first spare
   pub inside : g .guest < s .table .count
   pub ran :
@@ -242,9 +274,9 @@ pub record Turned (s : State) (k : ℕ) (ps : List GuestPlace) (ss : List SpareP
       {a : GuestPlace} {y : SparePlace} {b : PortionPlace} {d : Clock} {more : Bool} → a ≡ ranPlace g (getD (set ps (c .last) r) (g .guest) noGuestPlace)
       → y ≡ spentPlace g (getD ss at noSparePlace) → b ≡ portionPlace (line (c .now) (c .now + g .ticks) (useOf p)) → d ≡ laterBy g c
       → more ≡ ltb 0 (d .left) && ltb (count + 1) portionPlaces
-      → Walking s k (set (set ps (c .last) r) (g .guest) a) (set ss at y) (set qs count b) d (count + 1) more
+      → Walking s k from (set (set ps (c .last) r) (g .guest) a) (set ss at y) (set qs count b) d (count + 1) more
 
-module _ (s : State) (k : ℕ) (h : sound s ≡ true) (time : s .now + k ≤ lastTick) where
+module _ (s : State) (k from : ℕ) (h : sound s ≡ true) (time : s .now + k ≤ lastTick) where
   reached-sane : (count : ℕ) → Sane (reached s k count)
   unfolding model
   reached-sane count = advance-sane (ticksIn count k (model s)) (model s) (omega (arith, time, ticks-in-le count k (model s))) (sane-model s h)
@@ -277,15 +309,16 @@ module _ (s : State) (k : ℕ) (h : sound s ≡ true) (time : s .now + k ≤ las
   begun-ready zero f = absurd (omega arith)
   begun-ready (suc n) f = ap (λ (gs : List Guest). but (renewed (model s)) gs (renewed (model s) .spares)) (settled-one 0 (settled (model s) (sane-model s h)))
 
-  pub walking-start : {ps : List GuestPlace} {qs : List PortionPlace} {c : Clock} {more : Bool} → c ≡ startedAt s k → ps ≡ placed (begunFrom k (model s) .guests) → qs ≡ replicate portionPlaces noPortion
-      → more ≡ ltb 0 k && ltb 0 portionPlaces → Walking s k ps (s .spares) qs c 0 more
+  pub walking-start : {ps : List GuestPlace} {qs : List PortionPlace} {c : Clock} {more : Bool} → c ≡ startedAt s k → ps ≡ placed (begunFrom k (model s) .guests) → from ≡ trailingZeros 32 (maskOf (inUse (s .table .count) ps)) → qs ≡ replicate portionPlaces noPortion
+      → more ≡ ltb 0 k && ltb 0 portionPlaces → Walking s k from ps (s .spares) qs c 0 more
   unfolding ticksIn lines advance
-  walking-start {ps} {qs} {c} {more} ec e f g =
-      subst (λ (c : Clock). Walking s k ps (s .spares) qs c 0 more) (sym ec)
+  walking-start {ps} {qs} {c} {more} ec e el f g =
+      subst (λ (c : Clock). Walking s k from ps (s .spares) qs c 0 more) (sym ec)
       (record {
         x = begunFrom k (model s);
         shows = begun-shows k e;
         early = begun-early k;
+        lowest = el ∙ ap (λ (n : ℕ). trailingZeros 32 n) (mask-in (s .table .count) (begunFrom k (model s) .guests) e (shown-count s h (begunFrom k (model s)) (begun-shows k e .entries)));
         exact = begun-exact k;
         ready = begun-ready k;
         left = sym (sub-zero k);
@@ -299,7 +332,7 @@ module _ (s : State) (k : ℕ) (h : sound s ≡ true) (time : s .now + k ≤ las
 
   -- ---- one portion
 
-  module _ {ps : List GuestPlace} {ss : List SparePlace} {qs : List PortionPlace} {c : Clock} {count : ℕ} (w : Walking s k ps ss qs c count true) where
+  module _ {ps : List GuestPlace} {ss : List SparePlace} {qs : List PortionPlace} {c : Clock} {count : ℕ} (w : Walking s k from ps ss qs c count true) where
     abbrev M : Model
     M = reached s k count
 
@@ -337,7 +370,7 @@ module _ (s : State) (k : ℕ) (h : sound s ≡ true) (time : s .now + k ≤ las
           ∙ sym (placed-changed (w .x .guests) (c .last) (shown-inside s h (w .x) (w .shows .entries) (c .last) (w .last)) renew)
           ∙ ap placed guests-ready
 
-      module _ {q : Pick} (ec : q ≡ earliest 0 (inUse (s .table .count) (set ps (c .last) r))) {at : ℕ} (ea : c .head < sparePlaces → at ≡ c .head) where
+      module _ {q : Pick} (ec : q ≡ earliest from (drop from (inUse (s .table .count) (set ps (c .last) r)))) {at : ℕ} (ea : c .head < sparePlaces → at ≡ c .head) where
         long : length ss ≡ sparePlaces
         long = w .long
 
@@ -354,13 +387,24 @@ module _ (s : State) (k : ℕ) (h : sound s ≡ true) (time : s .now + k ≤ las
         count-shown : length (R .guests) ≡ s .table .count
         count-shown = shown-count s h R same-entries
 
+        -- the lowest active guest is still the same
+        same-lowest : from ≡ trailingZeros 32 (maskOf (R .guests))
+        same-lowest = w .lowest ∙ ap (λ (n : ℕ). trailingZeros 32 n) (same-mask (w .x .guests) (R .guests) (sym (map-changed bitOf renew bit-renew (c .last) (w .x .guests)) ∙ ap (λ (gs : List Guest). map bitOf gs) guests-ready))
+
+        chosen : q ≡ earliest 0 (R .guests)
+        chosen =
+            let n = s .table .count in
+            let gs = set ps (c .last) r in
+            let lowest-here : from ≡ trailingZeros 32 (maskOf (inUse n gs)) = same-lowest ∙ ap (λ (k : ℕ). trailingZeros 32 k) (sym (mask-in n (R .guests) turn-renewed count-shown)) in
+            ec ∙ lowest-first 32 (inUse n gs) lowest-here (in-use-few 32 n gs guestPlaces (ap length turn-renewed ∙ length-padded guestPlaces noGuestPlace (map guestPlace (R .guests)) (omega (arith, length-map (R .guests) guestPlace, count-shown, table-good s h .count-high))) (omega arith)) ∙ earliest-in n (R .guests) turn-renewed count-shown
+
         module _ {p : Portion} (en : p ≡ portion q (firstOf (ltb (c .head) (s .count)) Y)) where
           -- it is what the rules ask
           turn-next : p ≡ ask M
           unfolding ask next
           turn-next =
               en
-              ∙ ap (λ (q : Pick). portion q (firstOf (ltb (c .head) (s .count)) Y)) (ec ∙ earliest-in (s .table .count) (R .guests) turn-renewed count-shown)
+              ∙ ap (λ (q : Pick). portion q (firstOf (ltb (c .head) (s .count)) Y)) chosen
               ∙ portion-in ss (c .head) (s .count) at few long ea (w .shows .head) (earliest 0 (R .guests))
               ∙ ap (portion (earliest 0 (R .guests))) spares-shown
 
@@ -472,12 +516,13 @@ module _ (s : State) (k : ℕ) (h : sound s ≡ true) (time : s .now + k ≤ las
 
             turn-more : {a : GuestPlace} {y : SparePlace} {b : PortionPlace} {d : Clock} {more : Bool} → a ≡ ranPlace g B → y ≡ spentPlace g Y
                 → b ≡ portionPlace (line (c .now) (c .now + g .ticks) (useOf p)) → d ≡ laterBy g c → more ≡ ltb 0 (d .left) && ltb (count + 1) portionPlaces
-                → Walking s k (set (set ps (c .last) r) (g .guest) a) (set ss at y) (set qs count b) d (count + 1) more
+                → Walking s k from (set (set ps (c .last) r) (g .guest) a) (set ss at y) (set qs count b) d (count + 1) more
             turn-more {a} {y} {b} {d} {more} ra ry rb rd rm =
-                subst (λ (d : Clock). Walking s k (set (set ps (c .last) r) (g .guest) a) (set ss at y) (set qs count b) d (count + 1) more) (sym rd)
+                subst (λ (d : Clock). Walking s k from (set (set ps (c .last) r) (g .guest) a) (set ss at y) (set qs count b) d (count + 1) more) (sym rd)
                 (record {
                   x = made g R;
                   shows = next-shows ra ry;
+                  lowest = same-lowest ∙ ap (λ (n : ℕ). trailingZeros 32 n) (sym (same-mask (made g R .guests) (R .guests) (map-changed bitOf (ranBy g) (bit-ran g) (g .guest) (R .guests))));
                   early = subst (λ (m : Model). All (λ g. deadlineOf g ≤ 2 ^ 62) (m .guests)) (sym next-reached) (reached-early (count + 1));
                   exact = λ _. next-reached;
                   ready = λ _. next-ready;
@@ -490,17 +535,17 @@ module _ (s : State) (k : ℕ) (h : sound s ≡ true) (time : s .now + k ≤ las
                   goes = rm ∙ ap (λ (d : Clock). ltb 0 (d .left) && ltb (count + 1) portionPlaces) rd;
                 })
 
-            pub turn : Turned s k ps ss qs c count r at p g
+            pub turn : Turned s k from ps ss qs c count r at p g
             turn = record { inside = turn-inside; ran = turn-ran; spent = turn-spent; now = turn-now; later = turn-later; more = turn-more }
 
   -- what the loop's bounds need of it
-  pub bounds : {ps : List GuestPlace} {ss : List SparePlace} {qs : List PortionPlace} {c : Clock} {count : ℕ} {more : Bool} → Walking s k ps ss qs c count more
-      → (s .table .count ≤ guestPlaces) × (c .last < s .table .count) × (count ≤ portionPlaces) × Walking s k ps ss qs c count more
+  pub bounds : {ps : List GuestPlace} {ss : List SparePlace} {qs : List PortionPlace} {c : Clock} {count : ℕ} {more : Bool} → Walking s k from ps ss qs c count more
+      → (s .table .count ≤ guestPlaces) × (c .last < s .table .count) × (count ≤ portionPlaces) × Walking s k from ps ss qs c count more
   bounds w = (table-good s h .count-high, w .last, w .few, w)
 
   -- ---- behind the last portion
 
-  module _ {ps : List GuestPlace} {ss : List SparePlace} {qs : List PortionPlace} {c : Clock} {count : ℕ} (w : Walking s k ps ss qs c count false) where
+  module _ {ps : List GuestPlace} {ss : List SparePlace} {qs : List PortionPlace} {c : Clock} {count : ℕ} (w : Walking s k from ps ss qs c count false) where
     may : MayAdvance s k
     unfolding model
     may = record { whole = h; time = time }

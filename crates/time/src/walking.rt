@@ -187,7 +187,8 @@ fn walk_of(
     }
 }
 
-// Soundness is not tested here, so that an advance of many walks tests it once.
+// Soundness is not tested here, so that an advance of many walks tests it once. Who is active does not change on the way, so the lowest
+// active guest is found once.
 pub(crate) fn walked(s: State, k: u64) -> Walk
     requires { ⌜ (sound s ≡ true) × (s .now + k ≤ lastTick) ⌝ }
     ensures { λ r. ⌜ Walked s k r ⌝ }
@@ -195,6 +196,7 @@ pub(crate) fn walked(s: State, k: u64) -> Walk
     let t = s.table;
     let entries = t.entries;
     let mut guests = begun(s, k);
+    let from = order::lowest(guests, t.count);
     let mut spares = s.spares;
     let mut portions = no_portions();
     let mut h = started(s, k);
@@ -206,7 +208,7 @@ pub(crate) fn walked(s: State, k: u64) -> Walk
         let g = guests[last];
         let r = renewed(e, g);
         guests[last] = r;
-        let chosen = order::earliest(guests, t.count);
+        let chosen = order::earliest_from(guests, from, t.count);
         let at = spare_place(h.head);
         let x = spares[at];
         let next = next_of(chosen, x, h.head < s.count);

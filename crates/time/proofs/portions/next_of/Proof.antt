@@ -1,4 +1,5 @@
 -- `portions::next_of` meets its contract: the spare is taken where its deadline is at most the guest's.
+use mathlib.Core.Path.{refl}
 use native.Mathlib.Omega.{arith}
 use Rattle.order.specs.Choice.{pickOf}
 use Rattle.time.proofs.Charging.{spare-first, spare-later}
@@ -14,11 +15,11 @@ enum-told c = search needs
 
 returns : tie.Need-returns
 unfolding pickOf
-returns c = rw (c .before .enum-told .given .1, c .if1 .taken)
+returns c = rw (c .before .enum-told .given .1, c .if1 .taken) refl
 
 returns-2 : tie.Need-returns-2
 unfolding pickOf
-returns-2 c = rw (c .before .enum-told .given .1, c .if1 .left)
+returns-2 c = rw (c .before .enum-told .given .1, c .if1 .left) refl
 
 returns-3 : tie.Need-returns-3
 unfolding pickOf

@@ -1,3 +1,4 @@
+-- `renewal::guests_renewed` meets its contract.
 use Prim.Native.Nat.{_≤_, _-_}
 use native.Mathlib.Omega.{arith}
 use Rattle.rules.specs.Limits.{guestPlaces}
@@ -6,9 +7,6 @@ use Rattle.time.proofs.Renewing.{Renewing, in-places, renewing-first, r
 use borrow.Author.Needs.{needs}
 use Rattle.time.proofs.renewal.guests_renewed.Statement.{statement}
 use Rattle.time.proofs.renewal.guests_renewed.Tie as tie
-use Rattle.time.proofs.renewal.guests_renewed.Reads as reads
-use Rattle.time.proofs.renewal.guests_renewed.Lts as lts
-use Rattle.time.proofs.renewal.renewed.Reads as renewed-reads
 
 abbrev Inv-loop : tie.InvT-loop
 Inv-loop t entries before guests₀ i₀ guests i = (t .count ≤ guestPlaces) × (i ≤ t .count) × Renewing (guestsOf entries before (t .count)) i guests
@@ -16,58 +14,46 @@ Inv-loop t entries before guests₀ i₀ guests i = (t .count ≤ guestPlaces) �
 abbrev μ-loop : tie.MeasureT-loop
 μ-loop t entries before guests₀ i₀ guests i = t .count - i
 
--- src/walk.rt:57:5
 loop-holds : tie.Need-loop-holds Inv-loop μ-loop
 loop-holds c =
     let a = c .before .before .before in
     (in-places (a .args .s) (a .pre), search needs, renewing-first (a .args .s) (a .pre))
 
--- src/walk.rt:58:17
 mul-e : tie.Need-mul-e Inv-loop μ-loop
 mul-e c = search needs
 
--- src/walk.rt:58:17
 array-copy-out-e : tie.Need-array-copy-out-e Inv-loop μ-loop
 array-copy-out-e c = search needs
 
--- src/walk.rt:59:17
 mul-g : tie.Need-mul-g Inv-loop μ-loop
 mul-g c = search needs
 
--- src/walk.rt:59:17
 array-copy-out-g : tie.Need-array-copy-out-g Inv-loop μ-loop
 array-copy-out-g c = search needs
 
--- src/walk.rt:60:13
 renewed-requires : tie.Need-renewed-requires Inv-loop μ-loop
 renewed-requires c κs =
     let a = c .before .before .before .before .before .before .before .before in
     renewing-fits (a .args .s) (a .pre) (search needs)
 
--- src/walk.rt:61:9
 mul-guests : tie.Need-mul-guests Inv-loop μ-loop
 mul-guests c = search needs
 
--- src/walk.rt:61:9
 array-set-from-guests : tie.Need-array-set-from-guests Inv-loop μ-loop
 array-set-from-guests c = search needs
 
--- src/walk.rt:62:13
 add-i : tie.Need-add-i Inv-loop μ-loop
 add-i c = search needs
 
--- src/walk.rt:57:5
 loop-less : tie.Need-loop-less Inv-loop μ-loop
 loop-less c = search needs
 
--- src/walk.rt:57:5
 loop-again : tie.Need-loop-again Inv-loop μ-loop
 loop-again c =
     let l = c .before .before .before .before .before in
     let a = l .before .before .before .before in
     (search needs, search needs, renewing-next (a .args .s) (a .pre) (search needs) (l .loop .inv .2) (c .renewed .ensures))
 
--- src/walk.rt:48:1
 returns : tie.Need-returns Inv-loop μ-loop
 returns c =
     let l = c .before .before in

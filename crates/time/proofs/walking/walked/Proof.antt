@@ -1,7 +1,7 @@
 -- `walking::walked` meets its contract: between two portions the variables show the model that the walk has reached.
 use mathlib.Core.Path.{subst}
 use mathlib.Core.Bool.{Bool, true, false}
-use Prim.Native.Nat.{_≤_, _<_, _-_}
+use Prim.Native.Nat.{ℕ, _≤_, _<_, _-_}
 use native.Mathlib.Omega.{arith}
 use Rattle.rules.specs.Limits.{guestPlaces, sparePlaces, portionPlaces}
 use Rattle.rules.specs.Calls.{portionOf}
@@ -11,29 +11,32 @@ use Rattle.time.proofs.walking.walked.Statement.{statement}
 use Rattle.time.proofs.walking.walked.Tie as tie
 
 abbrev Inv-loop : tie.InvT-loop
-Inv-loop s k t entries guests₀ spares₀ portions₀ h₀ count₀ more₀ guests spares portions h count more =
-    (t .count ≤ guestPlaces) × (h .last < t .count) × (count ≤ portionPlaces) × Walking s k guests spares portions h count more
+Inv-loop s k t entries guests₀ from spares₀ portions₀ h₀ count₀ more₀ guests spares portions h count more =
+    (t .count ≤ guestPlaces) × (h .last < t .count) × (count ≤ portionPlaces) × Walking s k from guests spares portions h count more
 
 abbrev μ-loop : tie.MeasureT-loop
-μ-loop s k t entries guests₀ spares₀ portions₀ h₀ count₀ more₀ guests spares portions h count more = portionPlaces - count
+μ-loop s k t entries guests₀ from spares₀ portions₀ h₀ count₀ more₀ guests spares portions h count more = portionPlaces - count
 
 -- in the loop there is more to walk
 module _ (c : tie.In-loop Inv-loop μ-loop) where
   abbrev start : tie.Start Inv-loop μ-loop
-  start = c .before .before .before .before .before .before .before .before .before
+  start = c .before .before .before .before .before .before .before .before .before .before
 
-  going : Walking (start .args .s) (start .args .k) (c .before .loop .guests) (c .before .loop .spares) (c .before .loop .portions) (c .before .loop .h) (c .before .loop .count) true
-  going = subst (λ (more : Bool). Walking (start .args .s) (start .args .k) (c .before .loop .guests) (c .before .loop .spares) (c .before .loop .portions) (c .before .loop .h) (c .before .loop .count) more) (c .loop-test .taken) (c .before .loop .inv .3)
+  abbrev from : ℕ
+  from = c .before .before .before .before .before .before .lowest .result
+
+  going : Walking (start .args .s) (start .args .k) from (c .before .loop .guests) (c .before .loop .spares) (c .before .loop .portions) (c .before .loop .h) (c .before .loop .count) true
+  going = subst (λ (more : Bool). Walking (start .args .s) (start .args .k) from (c .before .loop .guests) (c .before .loop .spares) (c .before .loop .portions) (c .before .loop .h) (c .before .loop .count) more) (c .loop-test .taken) (c .before .loop .inv .3)
 
 -- once it is known what to charge, all that the turn needs follows
 module _ (c : tie.After-charge-of Inv-loop μ-loop) where
   abbrev loop : tie.In-loop Inv-loop μ-loop
   loop = c .before .before .before .before .before .before .before .before .before .before
 
-  turned : Turned (start loop .args .s) (start loop .args .k) (loop .before .loop .guests) (loop .before .loop .spares) (loop .before .loop .portions) (loop .before .loop .h) (loop .before .loop .count) (c .before .before .before .before .before .before .before .renewed .result) (c .before .before .before .before .before .spare-place .result) (portionOf (c .before .next-of .result)) (c .charge-of .result)
+  turned : Turned (start loop .args .s) (start loop .args .k) (from loop) (loop .before .loop .guests) (loop .before .loop .spares) (loop .before .loop .portions) (loop .before .loop .h) (loop .before .loop .count) (c .before .before .before .before .before .before .before .renewed .result) (c .before .before .before .before .before .spare-place .result) (portionOf (c .before .next-of .result)) (c .charge-of .result)
   turned =
       let place = c .before .before .before .before .before in
-      turn (start loop .args .s) (start loop .args .k) (start loop .pre .0) (start loop .pre .1) (going loop) (place .before .before .renewed .ensures) (place .before .earliest .ensures) (place .spare-place .ensures .1) (c .before .next-of .ensures) (c .charge-of .ensures)
+      turn (start loop .args .s) (start loop .args .k) (from loop) (start loop .pre .0) (start loop .pre .1) (going loop) (place .before .before .renewed .ensures) (place .before .earliest-from .ensures) (place .spare-place .ensures .1) (c .before .next-of .ensures) (c .charge-of .ensures)
 
   guest-inside : c .charge-of .result .guest < guestPlaces
   guest-inside = omega (arith, turned .inside, loop .before .loop .inv .0)
@@ -42,21 +45,27 @@ module _ (c : tie.After-charge-of Inv-loop μ-loop) where
 portion-room : (c : tie.After-portion-of Inv-loop μ-loop) → loop (c .before .before .before .before) .before .loop .count < portionPlaces
 portion-room c =
     let w = loop (c .before .before .before .before) in
-    room (start w .args .s) (start w .args .k) (start w .pre .0) (start w .pre .1) (going w)
+    room (start w .args .s) (start w .args .k) (from w) (start w .pre .0) (start w .pre .1) (going w)
 
 -- behind the loop there is not
 module _ (c : tie.After-loop Inv-loop μ-loop) where
   abbrev first : tie.Start Inv-loop μ-loop
-  first = c .before .before .before .before .before .before .before .before .before
+  first = c .before .before .before .before .before .before .before .before .before .before
 
-  gone : Walking (first .args .s) (first .args .k) (c .before .loop .guests) (c .before .loop .spares) (c .before .loop .portions) (c .before .loop .h) (c .before .loop .count) false
-  gone = subst (λ (more : Bool). Walking (first .args .s) (first .args .k) (c .before .loop .guests) (c .before .loop .spares) (c .before .loop .portions) (c .before .loop .h) (c .before .loop .count) more) (c .loop-test .left) (c .before .loop .inv .3)
+  abbrev from-first : ℕ
+  from-first = c .before .before .before .before .before .before .lowest .result
+
+  gone : Walking (first .args .s) (first .args .k) from-first (c .before .loop .guests) (c .before .loop .spares) (c .before .loop .portions) (c .before .loop .h) (c .before .loop .count) false
+  gone = subst (λ (more : Bool). Walking (first .args .s) (first .args .k) from-first (c .before .loop .guests) (c .before .loop .spares) (c .before .loop .portions) (c .before .loop .h) (c .before .loop .count) more) (c .loop-test .left) (c .before .loop .inv .3)
 
   heads : (c .before .loop .h .head ≤ first .args .s .count) × (first .args .s .count ≤ sparePlaces)
-  heads = last-head (first .args .s) (first .args .k) (first .pre .0) (first .pre .1) gone
+  heads = last-head (first .args .s) (first .args .k) from-first (first .pre .0) (first .pre .1) gone
 
 begun-requires : tie.Need-begun-requires Inv-loop μ-loop
 begun-requires c κs = search needs
+
+lowest-requires : tie.Need-lowest-requires Inv-loop μ-loop
+lowest-requires c κs = search needs
 
 no-portions-requires : tie.Need-no-portions-requires Inv-loop μ-loop
 no-portions-requires c κs = search needs
@@ -69,9 +78,10 @@ goes-on-requires c κs = search needs
 
 loop-holds : tie.Need-loop-holds Inv-loop μ-loop
 loop-holds c =
-    let a = c .before .before .before .before .before .before .before in
-    bounds (a .args .s) (a .args .k) (a .pre .0) (a .pre .1)
-    (walking-start (a .args .s) (a .args .k) (a .pre .0) (a .pre .1) (c .before .started .ensures) (c .before .before .before .before .begun .ensures) (c .before .before .no-portions .ensures) (c .goes-on .ensures))
+    let l = c .before .before .before .before in
+    let a = l .before .before .before .before in
+    bounds (a .args .s) (a .args .k) (l .lowest .result) (a .pre .0) (a .pre .1)
+    (walking-start (a .args .s) (a .args .k) (l .lowest .result) (a .pre .0) (a .pre .1) (c .before .started .ensures) (l .before .begun .ensures) (l .lowest .ensures) (c .before .before .no-portions .ensures) (c .goes-on .ensures))
 
 mul-e : tie.Need-mul-e Inv-loop μ-loop
 mul-e c = search needs
@@ -86,7 +96,7 @@ array-copy-out-g : tie.Need-array-copy-out-g Inv-loop μ-loop
 array-copy-out-g c = search needs
 
 renewed-requires : tie.Need-renewed-requires Inv-loop μ-loop
-renewed-requires c κs = let w = c .before .before in turn-fits (start w .args .s) (start w .args .k) (start w .pre .0) (start w .pre .1) (going w)
+renewed-requires c κs = let w = c .before .before in turn-fits (start w .args .s) (start w .args .k) (from w) (start w .pre .0) (start w .pre .1) (going w)
 
 mul-guests : tie.Need-mul-guests Inv-loop μ-loop
 mul-guests c = search needs
@@ -94,8 +104,8 @@ mul-guests c = search needs
 array-set-from-guests : tie.Need-array-set-from-guests Inv-loop μ-loop
 array-set-from-guests c = search needs
 
-earliest-requires : tie.Need-earliest-requires Inv-loop μ-loop
-earliest-requires c κs = search needs
+earliest-from-requires : tie.Need-earliest-from-requires Inv-loop μ-loop
+earliest-from-requires c κs = search needs
 
 spare-place-requires : tie.Need-spare-place-requires Inv-loop μ-loop
 spare-place-requires c κs = search needs
@@ -161,7 +171,7 @@ loop-again : tie.Need-loop-again Inv-loop μ-loop
 loop-again c =
     let q = c .before .before .before .before .before .before in
     let a = start (loop q) in
-    bounds (a .args .s) (a .args .k) (a .pre .0) (a .pre .1)
+    bounds (a .args .s) (a .args .k) (from (loop q)) (a .pre .0) (a .pre .1)
     (turned q .more (c .before .before .before .before .ran .ensures) (c .before .before .before .spent .ensures) (c .before .before .portion-of .ensures) (c .before .later .ensures) (c .goes-on2 .ensures))
 
 walk-of-requires : tie.Need-walk-of-requires Inv-loop μ-loop
@@ -170,7 +180,7 @@ walk-of-requires c κs = heads c
 returns : tie.Need-returns Inv-loop μ-loop
 returns c =
     let a = first (c .before) in
-    walking-end (a .args .s) (a .args .k) (a .pre .0) (a .pre .1) (gone (c .before)) (c .walk-of .ensures)
+    walking-end (a .args .s) (a .args .k) (from-first (c .before)) (a .pre .0) (a .pre .1) (gone (c .before)) (c .walk-of .ensures)
 
 pub walked-spec : {M : Type 1} → statement M
 walked-spec =
@@ -179,6 +189,7 @@ walked-spec =
     Inv-loop
     μ-loop
     begun-requires
+    lowest-requires
     no-portions-requires
     started-requires
     goes-on-requires
@@ -190,7 +201,7 @@ walked-spec =
     renewed-requires
     mul-guests
     array-set-from-guests
-    earliest-requires
+    earliest-from-requires
     spare-place-requires
     mul-x
     array-copy-out-x
