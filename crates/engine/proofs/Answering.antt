@@ -1,13 +1,12 @@
 -- What the questions answer of a state that is sound, and of one that is not.
 use mathlib.Core.Path.{_≡_, refl, sym, ap, _∙_}
 use mathlib.Core.Bool.{true, false, not}
-use mathlib.Core.List.{List, [], zipWith}
+use mathlib.Core.List.{[]}
 use Prim.Native.Nat.{ℕ, _≤_}
 use native.Mathlib.Omega.{arith}
 use lib.Count.{ones}
 use lib.ListN.{length, take}
 use lib.Seq.{length-take-le}
-use Rattle.rules.specs.declared.Activity.{Activity}
 use Rattle.rules.specs.declared.Answer.the-variants.{Went, Refused}
 use Rattle.rules.specs.declared.Refusal.the-variants.{NotSound}
 use Rattle.rules.specs.declared.State.{State}

@@ -1,6 +1,6 @@
 -- A job is done: each answer by its row, the guest that finishes, and the leftover that a guest leaves as it goes idle.
 use mathlib.Core.Path.{_≡_, refl, sym, ap, _∙_}
-use mathlib.Core.Bool.{true, false, cond, _&&_}
+use mathlib.Core.Bool.{true, false, _&&_}
 use mathlib.Core.List.{List, [], _∷_, map}
 use Prim.Native.Nat.{ℕ, zero, suc, _+_, _-_, _≤_, _<_}
 use native.Mathlib.Omega.{arith}
@@ -8,7 +8,7 @@ use lib.Dec.{ltb, eqb}
 use lib.ListN.{length, take, set}
 use borrow.Author.Tests.{lt-ltb, ne-eqb, eqb-true}
 use Rattle.laws.specs.Lists.{changed}
-use Rattle.laws.proofs.Cases.{and-both, never, by-test}
+use Rattle.laws.proofs.Cases.{and-both, never}
 use Rattle.laws.proofs.Elements.{total-changed}
 use Rattle.rules.specs.declared.Entry.{Entry}
 use Rattle.rules.specs.declared.Guest.{Guest as GuestPlace}
@@ -20,7 +20,7 @@ use Rattle.rules.specs.Model.{Guest, guest, Spare, spare, idleGuest, noGuest, g
 use Rattle.rules.specs.Places.{spareOf, model, guestPlace, packed}
 use Rattle.rules.specs.Refusals.{_gives_, first}
 use Rattle.rules.specs.Sound.{sound}
-use Rattle.rules.specs.Steps.{but, before, insertSpare, finish, leave, done}
+use Rattle.rules.specs.Steps.{but, insertSpare, finish, leave, done}
 use Rattle.rules.proofs.Facts.{sane-model}
 use Rattle.rules.proofs.Keeping.{entry-finish, length-insert}
 use Rattle.engine.proofs.Arriving.{idle-known, active-known}

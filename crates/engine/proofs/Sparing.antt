@@ -1,20 +1,16 @@
 -- The search for a spare's place: what it knows at i, and what one turn adds; and the lists of the rules in places.
 use mathlib.Core.Path.{_≡_, refl, ap, _∙_}
 use mathlib.Core.Bool.{Bool, true, false}
-use mathlib.Core.List.{List, [], _∷_, _++_, map, map-append, append-assoc}
+use mathlib.Core.List.{List, _∷_, _++_, map, map-append, append-assoc}
 use Prim.Native.Nat.{ℕ, _+_, _-_, _≤_, _<_}
 use native.Mathlib.Numerals.{add-one}
 use native.Mathlib.Omega.{arith}
-use lib.ListN.{length, getD, take, drop, set, replicate}
-use lib.Seq.{take-suc, slice, slice-cons, slice-empty, length-slice}
-use Rattle.laws.specs.Lists.{padded}
-use Rattle.laws.proofs.Parts.{slice-more}
-use Rattle.laws.proofs.Places.{set-padded}
-use Rattle.rules.specs.Limits.{sparePlaces}
+use lib.ListN.{length, getD, take}
+use lib.Seq.{take-suc, slice, slice-cons, slice-empty}
 use Rattle.rules.specs.declared.Spare.{Spare as SparePlace}
 use Rattle.rules.specs.Model.{Spare}
 use Rattle.rules.specs.Steps.{before, insertSpare}
-use Rattle.rules.specs.Places.{spareOf, sparePlace, noSparePlace}
+use Rattle.rules.specs.Places.{spareOf, sparePlace}
 use Rattle.rules.proofs.Packing.{spare-places}
 
 module _ (x : SparePlace) (a : List SparePlace) (n : ℕ) where

@@ -26,6 +26,7 @@ one-answer =
       mask = λ guests count a b p q. p .0 ∙ sym (q .0);
       ones = λ mask a b p q. p ∙ sym q;
       lowest = λ guests count a b p q. p ∙ sym q;
+      ready = λ i g a b p q. same-chosen a b (p ∙ sym q);
       earliest-from = λ guests from count a b p q. same-chosen a b (p ∙ sym q);
       earliest = λ guests count a b p q. same-chosen a b (p ∙ sym q);
     }

@@ -4,9 +4,8 @@ ghost use mathlib.Core.Path.{_≡_};
 ghost use Prim.Native.Nat.{min};
 ghost use Rattle.rules.specs.Limits.{guestPlaces};
 ghost use Rattle.rules.specs.Model.{bitOf};
-ghost use Rattle.rules.specs.Steps.{ready};
-ghost use Rattle.order.specs.Choice.{shown, pickOf, beats};
-ghost use Rattle.order.specs.Told.{OrderTold, MaskTold, OnesTold, LowestTold, EarliestFromTold, EarliestTold};
+ghost use Rattle.order.specs.Choice.{shown, beats};
+ghost use Rattle.order.specs.Told.{OrderTold, MaskTold, OnesTold, LowestTold, ReadyTold, EarliestFromTold, EarliestTold};
 use rules::GUEST_PLACES;
 use rules::Guest;
 use rules::Spare;
@@ -69,8 +68,9 @@ pub fn count_of(mask: u32) -> u32
     u32::count_ones(mask)
 }
 
-fn ready(i: usize, g: Guest) -> Chosen
-    ensures { λ r. ⌜ pickOf r ≡ ready i (shown g) ⌝ }
+// Guest i, where it is active.
+pub fn ready(i: usize, g: Guest) -> Chosen
+    ensures { λ r. ⌜ ReadyTold i g r ⌝ }
 {
     if g.jobs == 0 {
         return Chosen::Nobody;

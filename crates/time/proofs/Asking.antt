@@ -1,5 +1,5 @@
 -- What Ask answers: the choice after step 1 of a tick, and the first spare.
-use mathlib.Core.Path.{_≡_, refl, sym, ap, _∙_}
+use mathlib.Core.Path.{_≡_, refl, ap, _∙_}
 use mathlib.Core.Bool.{true, false}
 use mathlib.Core.List.{List, []}
 use Prim.Native.Nat.{ℕ}
@@ -7,7 +7,6 @@ use native.Mathlib.Omega.{arith}
 use lib.Dec.{ltb}
 use lib.ListN.{getD, length, length-map}
 use Rattle.rules.specs.declared.Answer.the-variants.{Went, Refused}
-use Rattle.rules.specs.declared.Asked.{Asked}
 use Rattle.rules.specs.declared.Guest.{Guest as GuestPlace}
 use Rattle.rules.specs.declared.Next.{Next}
 use Rattle.rules.specs.declared.Next.the-variants.{Nothing}
@@ -15,7 +14,6 @@ use Rattle.rules.specs.declared.Refusal.the-variants.{NotSound}
 use Rattle.rules.specs.declared.State.{State}
 use Rattle.rules.specs.Calls.{told, askRows, portionOf, AskedFor}
 use Rattle.rules.specs.Places.{model, noSparePlace}
-use Rattle.rules.specs.Refusals.{first}
 use Rattle.rules.specs.Sound.{sound}
 use Rattle.rules.specs.Steps.{renew, renewed, Pick, earliest, Portion, nothing, portion, next, ask}
 use Rattle.rules.proofs.Facts.{points, guests-count}

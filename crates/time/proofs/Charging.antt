@@ -23,7 +23,7 @@ use Rattle.rules.specs.Promises.{Uses}
 use Rattle.rules.specs.Steps.{renew, runs, Portion, onOwn, onSpare, burning, nothing, portion}
 use Rattle.rules.proofs.Spans.{runOwnBy, runLentBy, spendBy, laterBy, chargeBy, AtMost}
 use Rattle.time.specs.declared.portions.Charge.{Charge}
-use Rattle.time.specs.Charges.{firstOf, removedBy, blank, runCharge, chargeOf}
+use Rattle.time.specs.Charges.{firstOf, removedBy, runCharge, chargeOf}
 
 -- ---- step 1
 

@@ -3,6 +3,7 @@ pub mod Advancing
 pub mod Asking
 pub mod Charging
 pub mod Leaving
+pub mod Mirroring
 pub mod Placing
 pub mod Renewing
 pub mod Rows

@@ -12,11 +12,10 @@ use Rattle.laws.proofs.Elements.{all-at, map-changed}
 use Rattle.laws.proofs.Places.{length-padded, length-places}
 use Rattle.rules.specs.declared.Entry.{Entry}
 use Rattle.rules.specs.declared.Guest.{Guest as GuestPlace}
-use Rattle.rules.specs.declared.Spare.{Spare as SparePlace}
 use Rattle.rules.specs.declared.State.{State}
 use Rattle.rules.specs.Limits.{guestPlaces, sparePlaces, mostJobs, deadlineBound}
 use Rattle.rules.specs.Model.{Guest, guest, Spare, Model, noGuest, guestAt}
-use Rattle.rules.specs.Places.{guestOf, model, entryOf, guestPlace, sparePlace, noGuestPlace, noSparePlace, tableOf, packed, guestPlaceIsZero, sparePlaceIsZero}
+use Rattle.rules.specs.Places.{guestOf, model, entryOf, guestPlace, noGuestPlace, noSparePlace, tableOf, packed, guestPlaceIsZero, sparePlaceIsZero}
 use Rattle.rules.specs.Sound.{sound}
 use Rattle.rules.specs.Steps.{but}
 use Rattle.rules.specs.Table.{entriesOf, noEntry}

@@ -4,16 +4,15 @@ use mathlib.Core.Bool.{Bool, true, false, _&&_}
 use mathlib.Core.List.{List, [], _∷_, _++_, map, map-append}
 use Prim.Native.Nat.{ℕ, zero, suc, _+_, _*_, _-_, _^_, _≤_, _<_}
 use native.Mathlib.Nat.{sub-zero}
-use native.Mathlib.Numerals.{add-one}
 use native.Mathlib.Omega.{arith}
 use lib.Count.{trailingZeros}
 use lib.Dec.{ltb}
 use lib.ListN.{length, getD, take, drop, set, replicate, length-map, length-append, length-set, List·getD-map}
-use lib.Seq.{slice, slice-cons, slice-empty, length-slice, drop-drop}
+use lib.Seq.{map-set-same, slice, slice-cons, slice-empty, length-slice, drop-drop}
 use borrow.Author.Tests.{ltb-true, ltb-false, lt-ltb}
 use Rattle.laws.specs.Lists.{total, changed, padded}
 use Rattle.laws.proofs.Cases.{and-both, and-second, by-ltb}
-use Rattle.laws.proofs.Elements.{All, none, each, all-at, all-map, all-imp, map-changed, map-same, length-changed, total-map}
+use Rattle.laws.proofs.Elements.{All, none, each, all-at, all-map, all-imp, map-changed, map-same, total-map}
 use Rattle.laws.proofs.Places.{length-padded, take-padded, set-padded}
 use Rattle.rules.specs.declared.Entry.{Entry}
 use Rattle.rules.specs.declared.Guest.{Guest as GuestPlace}
@@ -26,7 +25,7 @@ use Rattle.rules.specs.Lines.{Line, line, useOf, ticksOn, lineFor, lines}
 use Rattle.rules.specs.Model.{Guest, guest, Spare, spare, Model, bitOf, maskOf, leftOf, deadlineOf, talliesOf, capacityOf, noGuest, guestAt, spareAt}
 use Rattle.rules.specs.Places.{guestOf, spareOf, model, entryOf, guestPlace, sparePlace, noGuestPlace, noSparePlace, packed}
 use Rattle.rules.specs.Sound.{sound}
-use Rattle.rules.specs.Steps.{but, renew, renewed, Pick, nobody, runs, earliest, Portion, portion, next, advance, ask}
+use Rattle.rules.specs.Steps.{but, renew, renewed, Pick, nobody, runs, ready, earliest, Portion, portion, next, advance, ask}
 use Rattle.rules.specs.Table.{noEntry}
 use Rattle.rules.specs.Walks.{ticksIn, portionPlace, noPortion, Walked}
 use Rattle.rules.proofs.Calling.{MayAdvance, advance-allowed}
@@ -41,9 +40,11 @@ use Rattle.order.proofs.Choosing.{lowest-first, in-use-few}
 use Rattle.time.specs.declared.portions.Charge.{Charge}
 use Rattle.time.specs.Charges.{firstOf, chargeOf, ranPlace, spentPlace}
 use Rattle.time.specs.declared.walking.Clock.{Clock}
+use Rattle.time.specs.Dues.{never, dueAt, SoonestFrom}
 use Rattle.time.specs.Clocks.{placed, listed, begunFrom, startedAt, laterBy, stateOf, walkOf}
 use Rattle.time.proofs.Charging.{ranBy, lostBy, made, Fits, charge-fits}
-use Rattle.time.proofs.Placing.{placed-at, placed-changed, table-good, packed-fields, spares-long, guest-here, guest-inside, guest-good}
+use Rattle.time.proofs.Mirroring.{mirrors}
+use Rattle.time.proofs.Placing.{placed-at, placed-changed, table-good, packed-fields, spares-long, guest-here, guest-good}
 
 pub begun-some : (k : ℕ) (m : Model) → (k ≡ 0 → ⊥) → begunFrom k m ≡ renewed m
 begun-some zero m h = absurd (h refl)
@@ -125,6 +126,11 @@ earliest-in n gs {guests} e l =
 portion-first : (q : Pick) (x : Spare) (ss : List Spare) → portion q (x ∷ []) ≡ portion q (x ∷ ss)
 portion-first nobody (spare d owner c) ss = refl
 portion-first (runs i d c) (spare e owner b) ss = refl
+
+map-set : {A B : Type 0} (f : A → B) (xs : List A) (i : ℕ) (x : A) → map f (set xs i x) ≡ set (map f xs) i (f x)
+map-set f [] i x = refl
+map-set f (y ∷ ys) zero x = refl
+map-set f (y ∷ ys) (suc i) x = rw (map-set f ys i x)
 
 drop-map : {A B : Type 0} (f : A → B) (n : ℕ) (xs : List A) → map f (drop n xs) ≡ drop n (map f xs)
 drop-map f zero xs = refl
@@ -214,6 +220,14 @@ early-renew bound (guest Q T zero c d own lent) p = omega (arith, p .early)
 early-renew bound (guest Q T (suc jobs) zero d own lent) p = omega (arith, p .early, p .served)
 early-renew bound (guest Q T (suc jobs) (suc c) d own lent) p = omega (arith, p .early)
 
+-- and in its place, or in an empty one
+placed-early : (gs : List Guest) (rest i : ℕ) → All (λ g. deadlineOf g ≤ 2 ^ 62) gs → getD (map guestPlace gs ++ replicate rest noGuestPlace) i noGuestPlace .deadline ≤ 2 ^ 62
+placed-early [] zero i none = omega arith
+placed-early [] (suc rest) zero none = omega arith
+placed-early [] (suc rest) (suc i) none = placed-early [] rest i none
+placed-early (guest Q T jobs c d own lent ∷ gs) rest zero (each e es) = e
+placed-early (g ∷ gs) rest (suc i) (each e es) = placed-early gs rest i es
+
 -- one tally is no more than all
 tally-at : (i : ℕ) (gs : List Guest) → i < length gs → talliesOf (guestAt i gs) ≤ total talliesOf gs
 tally-at i [] h = absurd (omega arith)
@@ -245,11 +259,13 @@ abbrev pub reached : State → ℕ → ℕ → Model
 reached s k count = advance (ticksIn count k (model s)) (model s)
 
 -- the variables show a model: the one reached, or before the first portion that one renewed; who ran last may be still to renew
-pub record Walking (s : State) (k from : ℕ) (ps : List GuestPlace) (ss : List SparePlace) (qs : List PortionPlace) (h : Clock) (count : ℕ) (more : Bool) : Type 0 where
+pub record Walking (s : State) (k from : ℕ) (ds : List ℕ) (ps : List GuestPlace) (ss : List SparePlace) (qs : List PortionPlace) (h : Clock) (count : ℕ) (more : Bool) : Type 0 where
   pub x : Model
   pub shows : Shows s x ps ss h
   pub early : All (λ g. deadlineOf g ≤ 2 ^ 62) (x .guests)
-  pub lowest : from ≡ trailingZeros 32 (maskOf (x .guests))
+  pub start : from < s .table .count
+  pub first : (gs : List Guest) → maskOf gs ≡ maskOf (x .guests) → length gs ≤ 32 → earliest from (drop from gs) ≡ earliest 0 gs
+  pub dues : ds ≡ map dueAt ps
   pub exact : (0 < h .left → 0 < count) → x ≡ reached s k count
   pub ready : 0 < h .left → but x (changed (h .last) renew (x .guests)) (x .spares) ≡ renewed (reached s k count)
   pub left : h .left ≡ k - ticksIn count k (model s)
@@ -260,8 +276,8 @@ pub record Walking (s : State) (k from : ℕ) (ps : List GuestPlace) (ss : List 
   pub counted : length (lines count k (model s)) ≡ count
   pub goes : more ≡ ltb 0 (h .left) && ltb count portionPlaces
 
--- what one portion gives the code: r is the guest that ran last, renewed; p is what comes next, and g what is charged
-pub record Turned (s : State) (k from : ℕ) (ps : List GuestPlace) (ss : List SparePlace) (qs : List PortionPlace) (c : Clock) (count : ℕ) (r : GuestPlace) (at : ℕ) (p : Portion) (g : Charge) : Type 0 where
+-- what one portion gives the code: r is the guest that ran last, renewed, and `due` its deadline; p is what comes next, and g what is charged
+pub record Turned (s : State) (k from : ℕ) (ds : List ℕ) (ps : List GuestPlace) (ss : List SparePlace) (qs : List PortionPlace) (c : Clock) (count : ℕ) (r : GuestPlace) (due at : ℕ) (p : Portion) (g : Charge) : Type 0 where
   -- the guest that is charged, and the first spare
   pub inside : g .guest < s .table .count
   pub ran :
@@ -274,7 +290,7 @@ pub record Turned (s : State) (k from : ℕ) (ps : List GuestPlace) (ss : List S
       {a : GuestPlace} {y : SparePlace} {b : PortionPlace} {d : Clock} {more : Bool} → a ≡ ranPlace g (getD (set ps (c .last) r) (g .guest) noGuestPlace)
       → y ≡ spentPlace g (getD ss at noSparePlace) → b ≡ portionPlace (line (c .now) (c .now + g .ticks) (useOf p)) → d ≡ laterBy g c
       → more ≡ ltb 0 (d .left) && ltb (count + 1) portionPlaces
-      → Walking s k from (set (set ps (c .last) r) (g .guest) a) (set ss at y) (set qs count b) d (count + 1) more
+      → Walking s k from (set ds (c .last) due) (set (set ps (c .last) r) (g .guest) a) (set ss at y) (set qs count b) d (count + 1) more
 
 module _ (s : State) (k from : ℕ) (h : sound s ≡ true) (time : s .now + k ≤ lastTick) where
   reached-sane : (count : ℕ) → Sane (reached s k count)
@@ -309,16 +325,30 @@ module _ (s : State) (k from : ℕ) (h : sound s ≡ true) (time : s .now + k �
   begun-ready zero f = absurd (omega arith)
   begun-ready (suc n) f = ap (λ (gs : List Guest). but (renewed (model s)) gs (renewed (model s) .spares)) (settled-one 0 (settled (model s) (sane-model s h)))
 
-  pub walking-start : {ps : List GuestPlace} {qs : List PortionPlace} {c : Clock} {more : Bool} → c ≡ startedAt s k → ps ≡ placed (begunFrom k (model s) .guests) → from ≡ trailingZeros 32 (maskOf (inUse (s .table .count) ps)) → qs ≡ replicate portionPlaces noPortion
-      → more ≡ ltb 0 k && ltb 0 portionPlaces → Walking s k from ps (s .spares) qs c 0 more
+  -- the search starts at the lowest active guest, or anywhere where there is none
+  begun-first : (lowest : ℕ) (gs : List Guest) → lowest ≡ trailingZeros 32 (maskOf gs) → (lowest < s .table .count → from ≡ lowest) → (s .table .count ≤ lowest → from ≡ 0) → length gs ≤ 32 → earliest from (drop from gs) ≡ earliest 0 gs
+  begun-first lowest gs e f g l =
+      by-ltb (λ _. earliest from (drop from gs) ≡ earliest 0 gs) lowest (s .table .count)
+      (λ h. lowest-first 32 gs (f h ∙ e) l)
+      (λ h. rw (g h))
+
+  begun-inside : (lowest : ℕ) → (lowest < s .table .count → from ≡ lowest) → (s .table .count ≤ lowest → from ≡ 0) → from < s .table .count
+  begun-inside lowest f g =
+      by-ltb (λ _. from < s .table .count) lowest (s .table .count)
+      (λ l. omega (arith, f l)) (λ l. omega (arith, g l, table-good s h .count-low))
+
+  pub walking-start : {ps : List GuestPlace} {qs : List PortionPlace} {c : Clock} {more : Bool} → c ≡ startedAt s k → ps ≡ placed (begunFrom k (model s) .guests) → (lowest : ℕ) → lowest ≡ trailingZeros 32 (maskOf (inUse (s .table .count) ps)) → (lowest < s .table .count → from ≡ lowest) × (s .table .count ≤ lowest → from ≡ 0) → qs ≡ replicate portionPlaces noPortion
+      → more ≡ ltb 0 k && ltb 0 portionPlaces → Walking s k from (map dueAt ps) ps (s .spares) qs c 0 more
   unfolding ticksIn lines advance
-  walking-start {ps} {qs} {c} {more} ec e el f g =
-      subst (λ (c : Clock). Walking s k from ps (s .spares) qs c 0 more) (sym ec)
+  walking-start {ps} {qs} {c} {more} ec e lowest el es f g =
+      subst (λ (c : Clock). Walking s k from (map dueAt ps) ps (s .spares) qs c 0 more) (sym ec)
       (record {
         x = begunFrom k (model s);
         shows = begun-shows k e;
         early = begun-early k;
-        lowest = el ∙ ap (λ (n : ℕ). trailingZeros 32 n) (mask-in (s .table .count) (begunFrom k (model s) .guests) e (shown-count s h (begunFrom k (model s)) (begun-shows k e .entries)));
+        start = begun-inside lowest (es .0) (es .1);
+        first = λ gs same few. begun-first lowest gs (el ∙ ap (λ (n : ℕ). trailingZeros 32 n) (mask-in (s .table .count) (begunFrom k (model s) .guests) e (shown-count s h (begunFrom k (model s)) (begun-shows k e .entries)) ∙ sym same)) (es .0) (es .1) few;
+        dues = refl;
         exact = begun-exact k;
         ready = begun-ready k;
         left = sym (sub-zero k);
@@ -332,7 +362,7 @@ module _ (s : State) (k from : ℕ) (h : sound s ≡ true) (time : s .now + k �
 
   -- ---- one portion
 
-  module _ {ps : List GuestPlace} {ss : List SparePlace} {qs : List PortionPlace} {c : Clock} {count : ℕ} (w : Walking s k from ps ss qs c count true) where
+  module _ {ds : List ℕ} {ps : List GuestPlace} {ss : List SparePlace} {qs : List PortionPlace} {c : Clock} {count : ℕ} (w : Walking s k from ds ps ss qs c count true) where
     abbrev M : Model
     M = reached s k count
 
@@ -354,6 +384,10 @@ module _ (s : State) (k from : ℕ) (h : sound s ≡ true) (time : s .now + k �
     same-entries : map entryOf (R .guests) ≡ map entryOf (model s .guests)
     same-entries = ap (λ (gs : List Guest). map entryOf gs) (sym guests-ready) ∙ map-changed entryOf renew entry-renew (c .last) (w .x .guests) ∙ w .shows .entries
 
+    renewed-early : All (λ g. deadlineOf g ≤ 2 ^ 62) (R .guests)
+    unfolding renewed
+    renewed-early = all-map (λ g. deadlineOf g ≤ 2 ^ 62) renew (λ g p. omega (arith, early-renew (deadlineBound (M .now)) g p, reached-sane count .time)) (reached-sane count .guests)
+
     -- the guest that ran last, renewed
     pub turn-fits : getD ps (c .last) noGuestPlace .deadline + getD (s .table .entries) (c .last) noEntry .period < 2 ^ 64
     turn-fits =
@@ -370,7 +404,7 @@ module _ (s : State) (k from : ℕ) (h : sound s ≡ true) (time : s .now + k �
           ∙ sym (placed-changed (w .x .guests) (c .last) (shown-inside s h (w .x) (w .shows .entries) (c .last) (w .last)) renew)
           ∙ ap placed guests-ready
 
-      module _ {q : Pick} (ec : q ≡ earliest from (drop from (inUse (s .table .count) (set ps (c .last) r)))) {at : ℕ} (ea : c .head < sparePlaces → at ≡ c .head) where
+      module _ {due : ℕ} (ed : due ≡ dueAt r) {soon : ℕ} (es : SoonestFrom (set ds (c .last) due) from (s .table .count) soon) {q : Pick} (ec : q ≡ ready soon (shown (getD (set ps (c .last) r) soon noGuestPlace))) {at : ℕ} (ea : c .head < sparePlaces → at ≡ c .head) where
         long : length ss ≡ sparePlaces
         long = w .long
 
@@ -387,16 +421,29 @@ module _ (s : State) (k from : ℕ) (h : sound s ≡ true) (time : s .now + k �
         count-shown : length (R .guests) ≡ s .table .count
         count-shown = shown-count s h R same-entries
 
-        -- the lowest active guest is still the same
-        same-lowest : from ≡ trailingZeros 32 (maskOf (R .guests))
-        same-lowest = w .lowest ∙ ap (λ (n : ℕ). trailingZeros 32 n) (same-mask (w .x .guests) (R .guests) (sym (map-changed bitOf renew bit-renew (c .last) (w .x .guests)) ∙ ap (λ (gs : List Guest). map bitOf gs) guests-ready))
+        -- who is active is still the same
+        same-active : maskOf (R .guests) ≡ maskOf (w .x .guests)
+        same-active = sym (same-mask (w .x .guests) (R .guests) (sym (map-changed bitOf renew bit-renew (c .last) (w .x .guests)) ∙ ap (λ (gs : List Guest). map bitOf gs) guests-ready))
+
+        -- the numbers are those of the guests
+        abbrev gs₁ : List GuestPlace
+        gs₁ = set ps (c .last) r
+
+        dues-here : set ds (c .last) due ≡ map dueAt gs₁
+        dues-here = ap₂ (λ (l : List ℕ) (v : ℕ). set l (c .last) v) (w .dues) ed ∙ sym (map-set dueAt ps (c .last) r)
+
+        long-here : length gs₁ ≡ guestPlaces
+        long-here = ap length turn-renewed ∙ length-padded guestPlaces noGuestPlace (map guestPlace (R .guests)) (omega (arith, length-map (R .guests) guestPlace, count-shown, table-good s h .count-high))
+
+        early-here : (i : ℕ) → i < length gs₁ → getD gs₁ i noGuestPlace .deadline < never
+        early-here i l = rw turn-renewed (omega (arith, placed-early (R .guests) (guestPlaces - length (map guestPlace (R .guests))) i renewed-early))
 
         chosen : q ≡ earliest 0 (R .guests)
         chosen =
             let n = s .table .count in
-            let gs = set ps (c .last) r in
-            let lowest-here : from ≡ trailingZeros 32 (maskOf (inUse n gs)) = same-lowest ∙ ap (λ (k : ℕ). trailingZeros 32 k) (sym (mask-in n (R .guests) turn-renewed count-shown)) in
-            ec ∙ lowest-first 32 (inUse n gs) lowest-here (in-use-few 32 n gs guestPlaces (ap length turn-renewed ∙ length-padded guestPlaces noGuestPlace (map guestPlace (R .guests)) (omega (arith, length-map (R .guests) guestPlace, count-shown, table-good s h .count-high))) (omega arith)) ∙ earliest-in n (R .guests) turn-renewed count-shown
+            ec ∙ es gs₁ (mirrors gs₁ dues-here early-here) (omega (arith, long-here, table-good s h .count-high))
+            ∙ w .first (inUse n gs₁) (mask-in n (R .guests) turn-renewed count-shown ∙ same-active) (in-use-few 32 n gs₁ guestPlaces long-here (omega arith))
+            ∙ earliest-in n (R .guests) turn-renewed count-shown
 
         module _ {p : Portion} (en : p ≡ portion q (firstOf (ltb (c .head) (s .count)) Y)) where
           -- it is what the rules ask
@@ -516,13 +563,15 @@ module _ (s : State) (k from : ℕ) (h : sound s ≡ true) (time : s .now + k �
 
             turn-more : {a : GuestPlace} {y : SparePlace} {b : PortionPlace} {d : Clock} {more : Bool} → a ≡ ranPlace g B → y ≡ spentPlace g Y
                 → b ≡ portionPlace (line (c .now) (c .now + g .ticks) (useOf p)) → d ≡ laterBy g c → more ≡ ltb 0 (d .left) && ltb (count + 1) portionPlaces
-                → Walking s k from (set (set ps (c .last) r) (g .guest) a) (set ss at y) (set qs count b) d (count + 1) more
+                → Walking s k from (set ds (c .last) due) (set (set ps (c .last) r) (g .guest) a) (set ss at y) (set qs count b) d (count + 1) more
             turn-more {a} {y} {b} {d} {more} ra ry rb rd rm =
-                subst (λ (d : Clock). Walking s k from (set (set ps (c .last) r) (g .guest) a) (set ss at y) (set qs count b) d (count + 1) more) (sym rd)
+                subst (λ (d : Clock). Walking s k from (set ds (c .last) due) (set (set ps (c .last) r) (g .guest) a) (set ss at y) (set qs count b) d (count + 1) more) (sym rd)
                 (record {
                   x = made g R;
                   shows = next-shows ra ry;
-                  lowest = same-lowest ∙ ap (λ (n : ℕ). trailingZeros 32 n) (sym (same-mask (made g R .guests) (R .guests) (map-changed bitOf (ranBy g) (bit-ran g) (g .guest) (R .guests))));
+                  start = w .start;
+                  first = λ gs same few. w .first gs (same ∙ same-mask (made g R .guests) (R .guests) (map-changed bitOf (ranBy g) (bit-ran g) (g .guest) (R .guests)) ∙ same-active) few;
+                  dues = dues-here ∙ sym (map-set-same dueAt gs₁ (g .guest) a noGuestPlace (ap dueAt ra));
                   early = subst (λ (m : Model). All (λ g. deadlineOf g ≤ 2 ^ 62) (m .guests)) (sym next-reached) (reached-early (count + 1));
                   exact = λ _. next-reached;
                   ready = λ _. next-ready;
@@ -535,17 +584,17 @@ module _ (s : State) (k from : ℕ) (h : sound s ≡ true) (time : s .now + k �
                   goes = rm ∙ ap (λ (d : Clock). ltb 0 (d .left) && ltb (count + 1) portionPlaces) rd;
                 })
 
-            pub turn : Turned s k from ps ss qs c count r at p g
+            pub turn : Turned s k from ds ps ss qs c count r due at p g
             turn = record { inside = turn-inside; ran = turn-ran; spent = turn-spent; now = turn-now; later = turn-later; more = turn-more }
 
   -- what the loop's bounds need of it
-  pub bounds : {ps : List GuestPlace} {ss : List SparePlace} {qs : List PortionPlace} {c : Clock} {count : ℕ} {more : Bool} → Walking s k from ps ss qs c count more
-      → (s .table .count ≤ guestPlaces) × (c .last < s .table .count) × (count ≤ portionPlaces) × Walking s k from ps ss qs c count more
+  pub bounds : {ds : List ℕ} {ps : List GuestPlace} {ss : List SparePlace} {qs : List PortionPlace} {c : Clock} {count : ℕ} {more : Bool} → Walking s k from ds ps ss qs c count more
+      → (s .table .count ≤ guestPlaces) × (c .last < s .table .count) × (count ≤ portionPlaces) × Walking s k from ds ps ss qs c count more
   bounds w = (table-good s h .count-high, w .last, w .few, w)
 
   -- ---- behind the last portion
 
-  module _ {ps : List GuestPlace} {ss : List SparePlace} {qs : List PortionPlace} {c : Clock} {count : ℕ} (w : Walking s k from ps ss qs c count false) where
+  module _ {ds : List ℕ} {ps : List GuestPlace} {ss : List SparePlace} {qs : List PortionPlace} {c : Clock} {count : ℕ} (w : Walking s k from ds ps ss qs c count false) where
     may : MayAdvance s k
     unfolding model
     may = record { whole = h; time = time }

@@ -22,6 +22,7 @@ use rules::Refusal;
 use rules::State;
 use rules::Walk;
 
+mod dues;
 mod portions;
 mod renewal;
 mod walking;

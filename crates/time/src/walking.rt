@@ -1,7 +1,6 @@
 // Walking portion by portion: renew, choose, charge so many ticks at once, and note the portion.
 ghost use mathlib.Core.Bool.{true, _&&_};
 ghost use mathlib.Core.Path.{_≡_};
-ghost use mathlib.Core.List.{map};
 ghost use Prim.Native.Nat.{_+_, _≤_, _<_, _^_};
 ghost use lib.Dec.{ltb};
 ghost use lib.ListN.{replicate};
@@ -14,6 +13,9 @@ ghost use Rattle.rules.specs.Places.{model, noSparePlace};
 ghost use Rattle.rules.specs.Sound.{sound};
 ghost use Rattle.rules.specs.Walks.{usedOf, portionPlace, noPortion, Walked};
 ghost use Rattle.time.specs.Clocks.{placed, begunFrom, startedAt, laterBy, walkOf};
+use crate::dues::due_of;
+use crate::dues::dues_of;
+use crate::dues::soonest;
 use crate::portions::Charge;
 use crate::portions::charge_of;
 use crate::portions::next_of;
@@ -53,6 +55,16 @@ fn begun(s: State, k: u64) -> [Guest; GUEST_PLACES]
         return s.guests;
     }
     guests_renewed(s)
+}
+
+// Where the search starts. Where nobody is active it may start anywhere.
+fn start_of(lowest: usize, count: usize) -> usize
+    ensures { λ r. ⌜ (lowest < count → r ≡ lowest) × (count ≤ lowest → r ≡ 0) ⌝ }
+{
+    if lowest < count {
+        return lowest;
+    }
+    0
 }
 
 // The place of the first spare that is not spent, or any place where all are.
@@ -196,7 +208,8 @@ pub(crate) fn walked(s: State, k: u64) -> Walk
     let t = s.table;
     let entries = t.entries;
     let mut guests = begun(s, k);
-    let from = order::lowest(guests, t.count);
+    let from = start_of(order::lowest(guests, t.count), t.count);
+    let mut dues = dues_of(guests);
     let mut spares = s.spares;
     let mut portions = no_portions();
     let mut h = started(s, k);
@@ -208,19 +221,19 @@ pub(crate) fn walked(s: State, k: u64) -> Walk
         let g = guests[last];
         let r = renewed(e, g);
         guests[last] = r;
-        let chosen = order::earliest_from(guests, from, t.count);
+        dues[last] = due_of(r);
+        let soon = soonest(&dues, from, t.count);
+        let f = guests[soon];
+        let chosen = order::ready(soon, f);
         let at = spare_place(h.head);
         let x = spares[at];
         let next = next_of(chosen, x, h.head < s.count);
         let c = charge_of(next, h.left, last);
         let i = c.guest;
         let b = guests[i];
-        let a = ran(b, c);
-        guests[i] = a;
-        let y = spent(x, c);
-        spares[at] = y;
-        let p = portion_of(next, h.now, c.ticks);
-        portions[count] = p;
+        guests[i] = ran(b, c);
+        spares[at] = spent(x, c);
+        portions[count] = portion_of(next, h.now, c.ticks);
         h = later(h, c);
         count = count + 1;
         more = goes_on(h.left, count);

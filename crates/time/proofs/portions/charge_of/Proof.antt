@@ -1,7 +1,5 @@
 -- `portions::charge_of` meets its contract: each case of what comes next is charged as the rules charge a tick on it.
-use mathlib.Core.Path.{ap, sym, _∙_}
-use Rattle.rules.specs.Calls.{portionOf}
-use Rattle.time.specs.Charges.{chargeOf}
+use mathlib.Core.Path.{_∙_}
 use Rattle.time.proofs.Charging.{run-charged}
 use borrow.Author.Needs.{needs}
 use Rattle.time.proofs.portions.charge_of.Statement.{statement}

@@ -1,7 +1,6 @@
 -- `portions::removed_by` meets its contract.
 use native.Mathlib.Omega.{arith}
 use borrow.Author.Tests.{le-leb, lt-leb}
-use borrow.Author.Needs.{needs}
 use Rattle.time.proofs.portions.removed_by.Statement.{statement}
 use Rattle.time.proofs.portions.removed_by.Tie as tie
 

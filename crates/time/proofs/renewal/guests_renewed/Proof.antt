@@ -1,6 +1,5 @@
 -- `renewal::guests_renewed` meets its contract.
 use Prim.Native.Nat.{_≤_, _-_}
-use native.Mathlib.Omega.{arith}
 use Rattle.rules.specs.Limits.{guestPlaces}
 use Rattle.sound.specs.Testing.{guestsOf}
 use Rattle.time.proofs.Renewing.{Renewing, in-places, renewing-first, renewing-fits, renewing-next, renewing-last}

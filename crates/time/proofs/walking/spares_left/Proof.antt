@@ -1,6 +1,5 @@
 -- `walking::spares_left` meets its contract.
 use Prim.Native.Nat.{_≤_, _-_}
-use native.Mathlib.Omega.{arith}
 use Rattle.time.proofs.Leaving.{Filled, filled-start, filled-more, filled-end}
 use Rattle.laws.proofs.Places.{length-mapped}
 use borrow.Author.Needs.{needs}

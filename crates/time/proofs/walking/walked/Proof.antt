@@ -1,6 +1,7 @@
 -- `walking::walked` meets its contract: between two portions the variables show the model that the walk has reached.
-use mathlib.Core.Path.{subst}
+use mathlib.Core.Path.{sym, subst}
 use mathlib.Core.Bool.{Bool, true, false}
+use mathlib.Core.List.{List}
 use Prim.Native.Nat.{ℕ, _≤_, _<_, _-_}
 use native.Mathlib.Omega.{arith}
 use Rattle.rules.specs.Limits.{guestPlaces, sparePlaces, portionPlaces}
@@ -11,32 +12,37 @@ use Rattle.time.proofs.walking.walked.Statement.{statement}
 use Rattle.time.proofs.walking.walked.Tie as tie
 
 abbrev Inv-loop : tie.InvT-loop
-Inv-loop s k t entries guests₀ from spares₀ portions₀ h₀ count₀ more₀ guests spares portions h count more =
-    (t .count ≤ guestPlaces) × (h .last < t .count) × (count ≤ portionPlaces) × Walking s k from guests spares portions h count more
+Inv-loop s k t entries guests₀ from dues₀ spares₀ portions₀ h₀ count₀ more₀ guests dues spares portions h count more =
+    (t .count ≤ guestPlaces) × (h .last < t .count) × (count ≤ portionPlaces) × Walking s k from dues guests spares portions h count more
 
 abbrev μ-loop : tie.MeasureT-loop
-μ-loop s k t entries guests₀ from spares₀ portions₀ h₀ count₀ more₀ guests spares portions h count more = portionPlaces - count
+μ-loop s k t entries guests₀ from dues₀ spares₀ portions₀ h₀ count₀ more₀ guests dues spares portions h count more = portionPlaces - count
 
 -- in the loop there is more to walk
 module _ (c : tie.In-loop Inv-loop μ-loop) where
   abbrev start : tie.Start Inv-loop μ-loop
-  start = c .before .before .before .before .before .before .before .before .before .before
+  start = c .before .before .before .before .before .before .before .before .before .before .before .before
 
   abbrev from : ℕ
-  from = c .before .before .before .before .before .before .lowest .result
+  from = c .before .before .before .before .before .before .before .start-of .result
 
-  going : Walking (start .args .s) (start .args .k) from (c .before .loop .guests) (c .before .loop .spares) (c .before .loop .portions) (c .before .loop .h) (c .before .loop .count) true
-  going = subst (λ (more : Bool). Walking (start .args .s) (start .args .k) from (c .before .loop .guests) (c .before .loop .spares) (c .before .loop .portions) (c .before .loop .h) (c .before .loop .count) more) (c .loop-test .taken) (c .before .loop .inv .3)
+  going : Walking (start .args .s) (start .args .k) from (c .before .loop .dues) (c .before .loop .guests) (c .before .loop .spares) (c .before .loop .portions) (c .before .loop .h) (c .before .loop .count) true
+  going = subst (λ (more : Bool). Walking (start .args .s) (start .args .k) from (c .before .loop .dues) (c .before .loop .guests) (c .before .loop .spares) (c .before .loop .portions) (c .before .loop .h) (c .before .loop .count) more) (c .loop-test .taken) (c .before .loop .inv .3)
 
 -- once it is known what to charge, all that the turn needs follows
 module _ (c : tie.After-charge-of Inv-loop μ-loop) where
   abbrev loop : tie.In-loop Inv-loop μ-loop
-  loop = c .before .before .before .before .before .before .before .before .before .before
+  loop = c .before .before .before .before .before .before .before .before .before .before .before .before .before .before
 
-  turned : Turned (start loop .args .s) (start loop .args .k) (from loop) (loop .before .loop .guests) (loop .before .loop .spares) (loop .before .loop .portions) (loop .before .loop .h) (loop .before .loop .count) (c .before .before .before .before .before .before .before .renewed .result) (c .before .before .before .before .before .spare-place .result) (portionOf (c .before .next-of .result)) (c .charge-of .result)
+  abbrev place : tie.After-spare-place Inv-loop μ-loop
+  place = c .before .before .before .before .before
+
+  abbrev renewal : tie.After-due-of Inv-loop μ-loop
+  renewal = place .before .before .before .before .before
+
+  turned : Turned (start loop .args .s) (start loop .args .k) (from loop) (loop .before .loop .dues) (loop .before .loop .guests) (loop .before .loop .spares) (loop .before .loop .portions) (loop .before .loop .h) (loop .before .loop .count) (renewal .before .renewed .result) (renewal .due-of .result) (place .spare-place .result) (portionOf (c .before .next-of .result)) (c .charge-of .result)
   turned =
-      let place = c .before .before .before .before .before in
-      turn (start loop .args .s) (start loop .args .k) (from loop) (start loop .pre .0) (start loop .pre .1) (going loop) (place .before .before .renewed .ensures) (place .before .earliest-from .ensures) (place .spare-place .ensures .1) (c .before .next-of .ensures) (c .charge-of .ensures)
+      turn (start loop .args .s) (start loop .args .k) (from loop) (start loop .pre .0) (start loop .pre .1) (going loop) (renewal .before .renewed .ensures) (renewal .due-of .ensures) (place .before .before .before .soonest .ensures .1) (place .before .ready .ensures) (place .spare-place .ensures .1) (c .before .next-of .ensures) (c .charge-of .ensures)
 
   guest-inside : c .charge-of .result .guest < guestPlaces
   guest-inside = omega (arith, turned .inside, loop .before .loop .inv .0)
@@ -50,13 +56,13 @@ portion-room c =
 -- behind the loop there is not
 module _ (c : tie.After-loop Inv-loop μ-loop) where
   abbrev first : tie.Start Inv-loop μ-loop
-  first = c .before .before .before .before .before .before .before .before .before .before
+  first = c .before .before .before .before .before .before .before .before .before .before .before .before
 
   abbrev from-first : ℕ
-  from-first = c .before .before .before .before .before .before .lowest .result
+  from-first = c .before .before .before .before .before .before .before .start-of .result
 
-  gone : Walking (first .args .s) (first .args .k) from-first (c .before .loop .guests) (c .before .loop .spares) (c .before .loop .portions) (c .before .loop .h) (c .before .loop .count) false
-  gone = subst (λ (more : Bool). Walking (first .args .s) (first .args .k) from-first (c .before .loop .guests) (c .before .loop .spares) (c .before .loop .portions) (c .before .loop .h) (c .before .loop .count) more) (c .loop-test .left) (c .before .loop .inv .3)
+  gone : Walking (first .args .s) (first .args .k) from-first (c .before .loop .dues) (c .before .loop .guests) (c .before .loop .spares) (c .before .loop .portions) (c .before .loop .h) (c .before .loop .count) false
+  gone = subst (λ (more : Bool). Walking (first .args .s) (first .args .k) from-first (c .before .loop .dues) (c .before .loop .guests) (c .before .loop .spares) (c .before .loop .portions) (c .before .loop .h) (c .before .loop .count) more) (c .loop-test .left) (c .before .loop .inv .3)
 
   heads : (c .before .loop .h .head ≤ first .args .s .count) × (first .args .s .count ≤ sparePlaces)
   heads = last-head (first .args .s) (first .args .k) from-first (first .pre .0) (first .pre .1) gone
@@ -66,6 +72,12 @@ begun-requires c κs = search needs
 
 lowest-requires : tie.Need-lowest-requires Inv-loop μ-loop
 lowest-requires c κs = search needs
+
+start-of-requires : tie.Need-start-of-requires Inv-loop μ-loop
+start-of-requires c κs = search needs
+
+dues-of-requires : tie.Need-dues-of-requires Inv-loop μ-loop
+dues-of-requires c κs = search needs
 
 no-portions-requires : tie.Need-no-portions-requires Inv-loop μ-loop
 no-portions-requires c κs = search needs
@@ -78,10 +90,13 @@ goes-on-requires c κs = search needs
 
 loop-holds : tie.Need-loop-holds Inv-loop μ-loop
 loop-holds c =
-    let l = c .before .before .before .before in
+    let d = c .before .before .before .before in
+    let l = d .before .before in
     let a = l .before .before .before .before in
-    bounds (a .args .s) (a .args .k) (l .lowest .result) (a .pre .0) (a .pre .1)
-    (walking-start (a .args .s) (a .args .k) (l .lowest .result) (a .pre .0) (a .pre .1) (c .before .started .ensures) (l .before .begun .ensures) (l .lowest .ensures) (c .before .before .no-portions .ensures) (c .goes-on .ensures))
+    let s = a .args .s in
+    bounds s (a .args .k) (d .before .start-of .result) (a .pre .0) (a .pre .1)
+    (subst (λ (ds : List ℕ). Walking s (a .args .k) (d .before .start-of .result) ds (l .before .begun .result) (s .spares) (c .before .before .no-portions .result) (c .before .started .result) 0 (c .goes-on .result)) (sym (d .dues-of .ensures))
+    (walking-start s (a .args .k) (d .before .start-of .result) (a .pre .0) (a .pre .1) (c .before .started .ensures) (l .before .begun .ensures) (l .lowest .result) (l .lowest .ensures) (d .before .start-of .ensures) (c .before .before .no-portions .ensures) (c .goes-on .ensures)))
 
 mul-e : tie.Need-mul-e Inv-loop μ-loop
 mul-e c = search needs
@@ -104,8 +119,30 @@ mul-guests c = search needs
 array-set-from-guests : tie.Need-array-set-from-guests Inv-loop μ-loop
 array-set-from-guests c = search needs
 
-earliest-from-requires : tie.Need-earliest-from-requires Inv-loop μ-loop
-earliest-from-requires c κs = search needs
+due-of-requires : tie.Need-due-of-requires Inv-loop μ-loop
+due-of-requires c κs = search needs
+
+mul-dues : tie.Need-mul-dues Inv-loop μ-loop
+mul-dues c = search needs
+
+array-write-dues : tie.Need-array-write-dues Inv-loop μ-loop
+array-write-dues c = search needs
+
+soonest-requires : tie.Need-soonest-requires Inv-loop μ-loop
+soonest-requires c κs = let l = c .before .before .before .before .before in (going l .start, l .before .loop .inv .0)
+
+-- the soonest guest has its place
+soon-inside : (c : tie.After-soonest Inv-loop μ-loop) → c .soonest .result < guestPlaces
+soon-inside c = omega (arith, c .soonest .ensures .0, c .before .before .before .before .before .before .before .loop .inv .0)
+
+mul-f : tie.Need-mul-f Inv-loop μ-loop
+mul-f c = record { fits = omega (arith, soon-inside c) }
+
+array-copy-out-f : tie.Need-array-copy-out-f Inv-loop μ-loop
+array-copy-out-f c = soon-inside c
+
+ready-requires : tie.Need-ready-requires Inv-loop μ-loop
+ready-requires c κs = search needs
 
 spare-place-requires : tie.Need-spare-place-requires Inv-loop μ-loop
 spare-place-requires c κs = search needs
@@ -190,6 +227,8 @@ walked-spec =
     μ-loop
     begun-requires
     lowest-requires
+    start-of-requires
+    dues-of-requires
     no-portions-requires
     started-requires
     goes-on-requires
@@ -201,7 +240,13 @@ walked-spec =
     renewed-requires
     mul-guests
     array-set-from-guests
-    earliest-from-requires
+    due-of-requires
+    mul-dues
+    array-write-dues
+    soonest-requires
+    mul-f
+    array-copy-out-f
+    ready-requires
     spare-place-requires
     mul-x
     array-copy-out-x
