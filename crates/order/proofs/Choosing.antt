@@ -41,13 +41,6 @@ mask-shown [] (g ∷ gs) h = absurd (omega arith)
 mask-shown (e ∷ es) [] h = absurd (omega arith)
 mask-shown (e ∷ es) (g ∷ gs) h = rw (mask-shown es gs (omega arith))
 
-pub earliest-shown : (i : ℕ) (es : List Entry) (gs : List GuestPlace) → length es ≡ length gs → earliest i (map shown gs) ≡ earliest i (zipWith guestOf es gs)
-unfolding zipWith
-earliest-shown i [] [] h = refl
-earliest-shown i [] (g ∷ gs) h = absurd (omega arith)
-earliest-shown i (e ∷ es) [] h = absurd (omega arith)
-earliest-shown i (e ∷ es) (g ∷ gs) h = rw (earliest-shown (suc i) es gs (omega arith))
-
 pub count-shown : (es : List Entry) (gs : List GuestPlace) → length es ≡ length gs → activeCount (map shown gs) ≡ activeCount (zipWith guestOf es gs)
 count-shown es gs h = sym (ones-of-mask (map shown gs)) ∙ ap ones (mask-shown es gs h) ∙ ones-of-mask (zipWith guestOf es gs)
 

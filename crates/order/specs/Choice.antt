@@ -24,6 +24,7 @@ inUse n gs = map shown (take n gs)
 abbrev pub beats : GuestPlace → GuestPlace → Bool
 beats b g = not (eqb (g .jobs) 0) && (eqb (b .jobs) 0 || ltb (g .deadline) (b .deadline))
 
+-- the rules' pick that the code's choice stands for
 unfoldable pub pickOf : Chosen → Pick
 pickOf Nobody = nobody
 pickOf (Runs i d c) = runs i d c

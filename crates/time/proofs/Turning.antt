@@ -33,7 +33,7 @@ use Rattle.rules.proofs.Packing.{spare-places}
 use Rattle.rules.proofs.Facts.{GuestGood, Sane, points, sane-model, guests-count}
 use Rattle.rules.proofs.Keeping.{entry-renew, tallies-renew, bit-renew}
 use Rattle.rules.proofs.Spans.{settled, ask-uses, span-positive, at-once}
-use Rattle.rules.proofs.Ticking.{advance-now, advance-add, advance-sane}
+use Rattle.rules.proofs.Ticking.{advance-add, advance-sane}
 use Rattle.rules.proofs.Walks.{ticks-in-le, lines-more, ticks-more, ticks-enough, lines-enough, walk-lines, walk-left, walk-state}
 use Rattle.order.specs.Choice.{shown, inUse}
 use Rattle.order.proofs.Choosing.{lowest-first, in-use-few}
@@ -296,10 +296,6 @@ module _ (s : State) (k from : ℕ) (h : sound s ≡ true) (time : s .now + k �
   reached-sane : (count : ℕ) → Sane (reached s k count)
   unfolding model
   reached-sane count = advance-sane (ticksIn count k (model s)) (model s) (omega (arith, time, ticks-in-le count k (model s))) (sane-model s h)
-
-  reached-now : (count : ℕ) → reached s k count .now ≡ s .now + ticksIn count k (model s)
-  unfolding model
-  reached-now count = advance-now (ticksIn count k (model s)) (model s)
 
   reached-early : (count : ℕ) → All (λ g. deadlineOf g ≤ 2 ^ 62) (reached s k count .guests)
   reached-early count = all-imp (λ g p. omega (arith, p .early, reached-sane count .time)) (reached-sane count .guests)
