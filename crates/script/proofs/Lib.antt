@@ -1,0 +1,4 @@
+-- Laws of lines and their digits.
+pub mod Digits
+pub mod Lines
+pub mod Told

@@ -1,0 +1,3 @@
+-- What a line of input is.
+pub mod Numbers
+pub mod Script

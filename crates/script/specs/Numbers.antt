@@ -1,0 +1,44 @@
+-- A number on a line: "each after one space .. 1 to 13 digits and no leading zero unless it is 0".
+use mathlib.Core.Bool.{Bool, cond, not, _&&_, _||_}
+use mathlib.Core.List.{List, [], _∷_}
+use Prim.Native.Nat.{ℕ, suc, _+_, _-_, _*_}
+use lib.Dec.{leb, eqb}
+use lib.ListN.{getD, take, drop}
+use Rattle.script.specs.declared.Number.{Number}
+
+-- "1 to 13 digits"
+abbrev pub mostDigits : ℕ
+mostDigits = 13
+
+abbrev pub isDigit : ℕ → Bool
+isDigit b = leb 48 b && leb b 57
+
+-- how many digits stand at the front
+unfoldable pub digitsIn : List ℕ → ℕ
+digitsIn [] = 0
+digitsIn (b ∷ bs) = cond (isDigit b) (suc (digitsIn bs)) 0
+
+-- the number that the digits make behind those of `value`
+unfoldable pub valueIn : ℕ → List ℕ → ℕ
+valueIn value [] = value
+valueIn value (b ∷ bs) = valueIn (value * 10 + (b - 48)) bs
+
+-- "1 to 13 digits and no leading zero unless it is 0"
+unfoldable pub wellFormed : List ℕ → Bool
+unfolding digitsIn
+wellFormed bs = leb 1 (digitsIn bs) && leb (digitsIn bs) mostDigits && (eqb (digitsIn bs) 1 || not (eqb (getD bs 0 0) 48))
+
+-- a number and what follows it, or none
+pub data Got : Type 0 where
+  none : Got
+  got : (value : ℕ) → (rest : List ℕ) → Got
+
+-- "each after one space"
+unfoldable pub numberAt : List ℕ → Got
+unfolding digitsIn valueIn wellFormed
+numberAt [] = none
+numberAt (b ∷ bs) = cond (eqb b 32 && wellFormed bs) (got (valueIn 0 (take (digitsIn bs) bs)) (drop (digitsIn bs) bs)) none
+
+-- what the code's answer says, on its line
+abbrev pub gotIn : List ℕ → Number → Got
+gotIn line r = cond (r .ok) (got (r .value) (drop (r .end) line)) none
