@@ -1,0 +1,4 @@
+-- Laws of the lines and of the numbers in them.
+pub mod Decimal
+pub mod Putting
+pub mod Told

@@ -1,0 +1,35 @@
+-- `lines::parts::put_none` meets its contract.
+use Prim.Native.Nat.{_+_}
+use native.Mathlib.Omega.{arith}
+use lib.ListN.{set, length-set}
+use denote.Ref.{now}
+use Rattle.lines.proofs.Putting.{part-byte, part-on}
+use borrow.Author.Needs.{needs}
+use Rattle.lines.proofs.parts.put_none.Statement.{statement}
+use Rattle.lines.proofs.parts.put_none.Tie as tie
+
+slice-write-buffer : tie.Need-slice-write-buffer
+slice-write-buffer c = search needs
+
+add-buffer : tie.Need-add-buffer
+add-buffer c = search needs
+
+slice-write-buffer-2 : tie.Need-slice-write-buffer-2
+slice-write-buffer-2 c = simp length-set (omega arith)
+
+add-result : tie.Need-add-result
+add-result c = search needs
+
+same-length : tie.Need-same-length
+same-length c = search needs
+
+returns : tie.Need-returns
+returns c =
+    let buffer = now (c .args .buffer) in
+    let at = c .args .at in
+    part-on (part-byte 32 buffer at {r = at + 1} (omega arith)) (part-byte 45 (set buffer at 32) (at + 1) (omega arith))
+
+pub put-none-spec : {M : Type 1} → statement M
+put-none-spec =
+    tie.close
+    (tie.spec slice-write-buffer add-buffer slice-write-buffer-2 add-result same-length returns)

@@ -1,0 +1,108 @@
+-- `lines::parts::put_used` meets its contract.
+use native.Mathlib.Omega.{arith}
+use Rattle.lines.specs.Lines.{usedBytes}
+use Rattle.lines.proofs.Putting.{part-on, part-within}
+use borrow.Author.Needs.{needs}
+use Rattle.lines.proofs.parts.put_used.Statement.{statement}
+use Rattle.lines.proofs.parts.put_used.Tie as tie
+
+enum-known-used : tie.Need-enum-known-used
+enum-known-used c = search needs
+
+put-spaced-requires : tie.Need-put-spaced-requires
+put-spaced-requires c κs = search needs
+
+put-owner-requires : tie.Need-put-owner-requires
+put-owner-requires c κs = search needs
+
+enum-known-used-2 : tie.Need-enum-known-used-2
+enum-known-used-2 c = search needs
+
+put-spaced-requires-2 : tie.Need-put-spaced-requires-2
+put-spaced-requires-2 c κs = search needs
+
+put-owner-requires-2 : tie.Need-put-owner-requires-2
+put-owner-requires-2 c κs = search needs
+
+enum-known-used-3 : tie.Need-enum-known-used-3
+enum-known-used-3 c = search needs
+
+put-none-requires : tie.Need-put-none-requires
+put-none-requires c κs = search needs
+
+put-owner-requires-3 : tie.Need-put-owner-requires-3
+put-owner-requires-3 c κs = search needs
+
+enum-told : tie.Need-enum-told
+enum-told c = search needs
+
+put-none-requires-2 : tie.Need-put-none-requires-2
+put-none-requires-2 c κs = search needs
+
+put-none-requires-3 : tie.Need-put-none-requires-3
+put-none-requires-3 c κs = search needs
+
+same-length : tie.Need-same-length
+same-length c = search needs
+
+returns : tie.Need-returns
+unfolding usedBytes
+returns c =
+    let second = c .before .before in
+    let first = second .before .before .before .before in
+    rw (first .before .before .before .used .given .1) (part-on (first .put-spaced .ensures) (second .put-owner .ensures))
+
+same-length-2 : tie.Need-same-length-2
+same-length-2 c = search needs
+
+returns-2 : tie.Need-returns-2
+unfolding usedBytes
+returns-2 c =
+    let second = c .before .before in
+    let first = second .before .before .before .before in
+    rw (first .before .before .before .used2 .given .1) (part-on (first .put-spaced2 .ensures) (second .put-owner2 .ensures))
+
+same-length-3 : tie.Need-same-length-3
+same-length-3 c = search needs
+
+returns-3 : tie.Need-returns-3
+unfolding usedBytes
+returns-3 c =
+    let second = c .before .before in
+    let first = second .before .before .before .before in
+    rw (first .before .before .before .used3 .given .1) (part-within (omega arith) (part-on (first .put-none .ensures) (second .put-owner3 .ensures)))
+
+same-length-4 : tie.Need-same-length-4
+same-length-4 c = search needs
+
+returns-4 : tie.Need-returns-4
+unfolding usedBytes
+returns-4 c =
+    let second = c .before .before in
+    let first = second .before .before .before .before in
+    rw (first .before .before .enum-told .given .1) (part-within (omega arith) (part-on (first .put-none2 .ensures) (second .put-none3 .ensures)))
+
+pub put-used-spec : {M : Type 1} → statement M
+put-used-spec =
+    tie.close
+    (tie.spec
+    enum-known-used
+    put-spaced-requires
+    put-owner-requires
+    enum-known-used-2
+    put-spaced-requires-2
+    put-owner-requires-2
+    enum-known-used-3
+    put-none-requires
+    put-owner-requires-3
+    enum-told
+    put-none-requires-2
+    put-none-requires-3
+    same-length
+    returns
+    same-length-2
+    returns-2
+    same-length-3
+    returns-3
+    same-length-4
+    returns-4)

@@ -1,0 +1,37 @@
+-- A number in decimal: digits without leading zero, 0 as one digit.
+use mathlib.Core.Path.{_≡_}
+use mathlib.Core.Bool.{cond}
+use mathlib.Core.List.{List, [], _∷_, _++_}
+use Prim.Native.Nat.{ℕ, zero, suc, _+_, _-_, _*_, _/_, _%_, _<_}
+use lib.Dec.{ltb}
+use lib.ListN.{getD}
+
+-- the last digits of n, so many
+unfoldable pub digits : ℕ → ℕ → List ℕ
+digits zero n = []
+digits (suc count) n = digits count (n / 10) ++ ((48 + n % 10) ∷ [])
+
+-- one digit below ten, and else one more than a tenth of it has; no number has more than `most` tens to go through
+unfoldable pub digitCount : ℕ → ℕ → ℕ
+digitCount zero n = 1
+digitCount (suc most) n = cond (ltb n 10) 1 (suc (digitCount most (n / 10)))
+
+-- a tenth is less than the number, so that n itself bounds the steps
+unfoldable pub decimal : ℕ → List ℕ
+unfolding digits digitCount
+decimal n = digits (digitCount n n) n
+
+-- ---- what it means
+
+-- the number that digits make behind those that make v
+unfoldable pub valueOf : ℕ → List ℕ → ℕ
+valueOf v [] = v
+valueOf v (b ∷ bs) = valueOf (v * 10 + (b - 48)) bs
+
+-- a number's digits make that number
+abbrev pub DecimalReads : Type 0
+DecimalReads = (n : ℕ) → valueOf 0 (decimal n) ≡ n
+
+-- the first digit of a number above 0 is not 0
+abbrev pub NoLeadingZero : Type 0
+NoLeadingZero = (n : ℕ) → 0 < n → getD (decimal n) 0 0 ≡ 48 → ⊥

@@ -1,0 +1,3 @@
+-- The lines of the listing as bytes.
+pub mod Decimal
+pub mod Lines

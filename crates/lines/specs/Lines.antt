@@ -1,0 +1,74 @@
+-- "The program and its listing": a portion, a refusal and the end as the bytes of a line, and a line put into a lent buffer.
+use mathlib.Core.Path.{_≡_}
+use mathlib.Core.Bool.{Bool, cond}
+use mathlib.Core.List.{List, [], _∷_, _++_}
+use Prim.Native.Nat.{ℕ, _+_, _≤_}
+use lib.Dec.{leb}
+use lib.ListN.{length}
+use lib.Seq.{sets}
+use Rattle.rules.specs.declared.Used.{Used}
+use Rattle.rules.specs.declared.Used.the-variants.{Own, SpareOf, Burned, Idle}
+use Rattle.rules.specs.declared.Portion.{Portion}
+use Rattle.lines.specs.Decimal.{decimal}
+
+-- ---- the lines
+
+-- a space and `-`, for "guest or `-`" and "the owner .. or `-`"
+abbrev pub none : List ℕ
+none = 32 ∷ 45 ∷ []
+
+-- a space and a number
+abbrev pub spaced : ℕ → List ℕ
+spaced n = 32 ∷ decimal n
+
+-- "the owner followed by `o` (own) or `s` (spare)"
+abbrev pub ownerBytes : ℕ → ℕ → List ℕ
+ownerBytes owner letter = spaced owner ++ (letter ∷ [])
+
+-- "guest or `-`, and the owner followed by `o` (own) or `s` (spare), or `-`"
+unfoldable pub usedBytes : Used → List ℕ
+usedBytes (Own i) = spaced i ++ ownerBytes i 111
+usedBytes (SpareOf i owner) = spaced i ++ ownerBytes owner 115
+usedBytes (Burned owner) = none ++ ownerBytes owner 115
+usedBytes Idle = none ++ none
+
+-- "one line per portion: first tick, end tick", and what it used
+unfoldable pub portionBytes : Portion → List ℕ
+unfolding usedBytes
+portionBytes p = decimal (p .first) ++ spaced (p .end) ++ usedBytes (p .used) ++ (10 ∷ [])
+
+-- "print `! number`"
+unfoldable pub refusalBytes : ℕ → List ℕ
+refusalBytes n = 33 ∷ spaced n ++ (10 ∷ [])
+
+-- "The last line is `end` and the tick."
+unfoldable pub endBytes : ℕ → List ℕ
+endBytes tick = 101 ∷ 110 ∷ 100 ∷ spaced tick ++ (10 ∷ [])
+
+-- ---- in a lent buffer
+
+-- no line takes more bytes: four numbers of at most 20 digits, three spaces, a letter and a line feed
+abbrev pub lineRoom : ℕ
+lineRoom = 85
+
+-- a line has room behind the bytes that the buffer holds
+abbrev pub hasRoom : List ℕ → ℕ → Bool
+hasRoom buffer filled = leb (filled + lineRoom) (length buffer)
+
+-- a line put behind them: the whole buffer's content, and how many bytes it holds then; without room nothing is put
+pub record LinePut (bytes buffer : List ℕ) (filled : ℕ) (after : List ℕ) (r : ℕ) : Type 0 where
+  pub content : after ≡ cond (hasRoom buffer filled) (sets buffer filled bytes) buffer
+  pub holds : r ≡ cond (hasRoom buffer filled) (filled + length bytes) filled
+  pub short : r ≤ filled + lineRoom
+
+-- a part of a line put at a place with room for `most` bytes: what the buffer holds then, and the place behind the part
+pub record PartPut (bytes : List ℕ) (most : ℕ) (buffer : List ℕ) (at : ℕ) (after : List ℕ) (r : ℕ) : Type 0 where
+  pub content : after ≡ sets buffer at bytes
+  pub behind : r ≡ at + length bytes
+  pub short : length bytes ≤ most
+
+-- any two outcomes that the predicate allows are equal
+abbrev pub OneOutcome : Type 0
+OneOutcome =
+    (bytes buffer : List ℕ) (filled : ℕ) (after after′ : List ℕ) (r r′ : ℕ)
+    → LinePut bytes buffer filled after r → LinePut bytes buffer filled after′ r′ → (after ≡ after′) × (r ≡ r′)

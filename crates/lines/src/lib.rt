@@ -1,0 +1,64 @@
+// The lines of the listing, put into a lent buffer behind what it holds: a portion, a refusal, the end.
+ghost use mathlib.Core.Path.{_≡_};
+ghost use Prim.Native.Nat.{_+_};
+ghost use lib.Dec.{leb};
+ghost use Rattle.lines.specs.Lines.{LinePut, portionBytes, refusalBytes, endBytes, lineRoom};
+use crate::parts::put_number;
+use crate::parts::put_spaced;
+use crate::parts::put_used;
+use rules::Portion;
+
+mod parts;
+
+// No line takes more bytes, whatever its numbers.
+pub const LINE_ROOM: usize = 85;
+
+// The sum of filled and the room is not made, because it could wrap.
+fn has_room(length: usize, filled: usize) -> bool
+    ensures { λ r. ⌜ r ≡ leb (filled + lineRoom) length ⌝ }
+{
+    if length < LINE_ROOM {
+        return false;
+    }
+    filled <= length - LINE_ROOM
+}
+
+pub fn put_portion(p: Portion, buffer: &mut [u8], filled: usize) -> usize
+    ensures { λ r. ⌜ LinePut (portionBytes p) (now (buffer .entry)) filled (now (buffer .exit)) r ⌝ }
+{
+    if !has_room(buffer.len(), filled) {
+        return filled;
+    }
+    let first = put_number(p.first, buffer, filled);
+    let end = put_spaced(p.end, buffer, first);
+    let used = p.used;
+    let behind = put_used(used, buffer, end);
+    buffer[behind] = b'\n';
+    behind + 1
+}
+
+pub fn put_refusal(number: u64, buffer: &mut [u8], filled: usize) -> usize
+    ensures { λ r. ⌜ LinePut (refusalBytes number) (now (buffer .entry)) filled (now (buffer .exit)) r ⌝ }
+{
+    if !has_room(buffer.len(), filled) {
+        return filled;
+    }
+    buffer[filled] = b'!';
+    let behind = put_spaced(number, buffer, filled + 1);
+    buffer[behind] = b'\n';
+    behind + 1
+}
+
+pub fn put_end(tick: u64, buffer: &mut [u8], filled: usize) -> usize
+    ensures { λ r. ⌜ LinePut (endBytes tick) (now (buffer .entry)) filled (now (buffer .exit)) r ⌝ }
+{
+    if !has_room(buffer.len(), filled) {
+        return filled;
+    }
+    buffer[filled] = b'e';
+    buffer[filled + 1] = b'n';
+    buffer[filled + 2] = b'd';
+    let behind = put_spaced(tick, buffer, filled + 3);
+    buffer[behind] = b'\n';
+    behind + 1
+}

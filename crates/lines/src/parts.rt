@@ -1,0 +1,86 @@
+// The parts of a line, each put at a place of the buffer that has room for the longest.
+ghost use mathlib.Core.Path.{_≡_};
+ghost use Prim.Native.Nat.{_+_, _≤_, _<_};
+ghost use lib.ListN.{length};
+ghost use Rattle.lines.specs.Decimal.{digitCount, decimal};
+ghost use Rattle.lines.specs.Lines.{none, spaced, ownerBytes, usedBytes, PartPut};
+use rules::Used;
+
+fn digit_count(n: u64) -> usize
+    ensures { λ r. ⌜ (r ≡ digitCount n n) × (r ≤ 20) ⌝ }
+{
+    let mut count: usize = 1;
+    let mut rest = n / 10;
+    while 0 < rest {
+        rest = rest / 10;
+        count = count + 1;
+    }
+    count
+}
+
+// From the last digit to the first.
+pub(crate) fn put_number(n: u64, buffer: &mut [u8], at: usize) -> usize
+    requires { ⌜ at + 20 ≤ length (now buffer) ⌝ }
+    ensures { λ r. ⌜ PartPut (decimal n) 20 (now (buffer .entry)) at (now (buffer .exit)) r ⌝ }
+{
+    let end = at + digit_count(n);
+    let mut rest = n;
+    let mut i = end;
+    while at < i {
+        i = i - 1;
+        buffer[i] = 48 + (rest % 10) as u8;
+        rest = rest / 10;
+    }
+    end
+}
+
+pub(crate) fn put_spaced(n: u64, buffer: &mut [u8], at: usize) -> usize
+    requires { ⌜ at + 21 ≤ length (now buffer) ⌝ }
+    ensures { λ r. ⌜ PartPut (spaced n) 21 (now (buffer .entry)) at (now (buffer .exit)) r ⌝ }
+{
+    buffer[at] = b' ';
+    put_number(n, buffer, at + 1)
+}
+
+fn put_none(buffer: &mut [u8], at: usize) -> usize
+    requires { ⌜ at + 2 ≤ length (now buffer) ⌝ }
+    ensures { λ r. ⌜ PartPut none 2 (now (buffer .entry)) at (now (buffer .exit)) r ⌝ }
+{
+    buffer[at] = b' ';
+    buffer[at + 1] = b'-';
+    at + 2
+}
+
+// The owner and the letter behind it.
+fn put_owner(owner: u64, letter: u8, buffer: &mut [u8], at: usize) -> usize
+    requires { ⌜ at + 22 ≤ length (now buffer) ⌝ }
+    ensures { λ r. ⌜ PartPut (ownerBytes owner letter) 22 (now (buffer .entry)) at (now (buffer .exit)) r ⌝ }
+{
+    let behind = put_spaced(owner, buffer, at);
+    buffer[behind] = letter;
+    behind + 1
+}
+
+pub(crate) fn put_used(used: Used, buffer: &mut [u8], at: usize) -> usize
+    requires { ⌜ at + 43 ≤ length (now buffer) ⌝ }
+    ensures { λ r. ⌜ PartPut (usedBytes used) 43 (now (buffer .entry)) at (now (buffer .exit)) r ⌝ }
+{
+    match used {
+        Used::Own(i) => {
+            let behind = put_spaced(i as u64, buffer, at);
+            put_owner(i as u64, b'o', buffer, behind)
+        }
+        Used::SpareOf(i, owner) => {
+            let behind = put_spaced(i as u64, buffer, at);
+            put_owner(owner as u64, b's', buffer, behind)
+        }
+        Used::Burned(owner) => {
+            let behind = put_none(buffer, at);
+            put_owner(owner as u64, b's', buffer, behind)
+        }
+        Used::Idle => {
+            let behind = put_none(buffer, at);
+            put_none(buffer, behind)
+        }
+    }
+}
