@@ -1,7 +1,6 @@
 -- `script::is_digit` meets its contract.
 use native.Mathlib.Omega.{arith}
 use Rattle.script.proofs.Digits.{digit, below-digits, above-digits}
-use borrow.Author.Needs.{needs}
 use Rattle.script.proofs.is_digit.Statement.{statement}
 use Rattle.script.proofs.is_digit.Tie as tie
 

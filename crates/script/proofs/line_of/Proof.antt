@@ -1,5 +1,5 @@
 -- `script::line_of` meets its contract.
-use mathlib.Core.Path.{sym, _∙_}
+use mathlib.Core.Path.{_∙_}
 use borrow.Author.Tests.{not-true, not-false}
 use Rattle.script.proofs.Lines.{line-empty, line-guest, line-none, line-one}
 use borrow.Author.Needs.{needs}

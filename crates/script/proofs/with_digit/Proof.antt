@@ -1,6 +1,5 @@
 -- `script::with_digit` meets its contract.
-use native.Mathlib.Omega.{arith}
-use Rattle.script.proofs.Digits.{digit-low, digit-high}
+use Rattle.script.proofs.Digits.{digit-low}
 use borrow.Author.Needs.{needs}
 use Rattle.script.proofs.with_digit.Statement.{statement}
 use Rattle.script.proofs.with_digit.Tie as tie

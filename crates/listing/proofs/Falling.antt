@@ -1,0 +1,102 @@
+-- Each step makes the number smaller that says what is to go.
+use mathlib.Core.Path.{_≡_, refl}
+use mathlib.Core.Bool.{true, cond, false≢true}
+use mathlib.Core.List.{List}
+use Prim.Native.Nat.{ℕ, zero, suc, _+_, _-_, _*_, _≤_, _<_}
+use native.Mathlib.Nat.{mul-le-mul-right, suc-mul}
+use native.Mathlib.Omega.{arith}
+use lib.Dec.{leb, ltb}
+use lib.ListN.{length}
+use Rattle.laws.proofs.Cases.{by-test, by-leb, by-ltb}
+use Rattle.rules.specs.Refusals.{first}
+use Rattle.rules.specs.Table.{tableRows}
+use Rattle.rules.specs.Walks.{walkLeft}
+use Rattle.rules.proofs.Walks.{walk-left-falls, walk-left-bound}
+use Rattle.script.specs.declared.Line.{Line}
+use Rattle.script.specs.declared.Line.the-variants.{Frame, Guest, Arrive, Done, Advance, Malformed}
+use Rattle.listing.specs.declared.Stage.{Stage}
+use Rattle.listing.specs.declared.Stage.the-variants.{Frames, Guests, Commands, Over}
+use Rattle.listing.specs.declared.Held.{Held}
+use Rattle.listing.specs.Listing.{mostInput}
+use Rattle.listing.specs.Stepping.{lineAt, behind, Step, step, heldOf, stops, over, ends, frameLine, checks, guestLine, walks, commandLine, stepIn, stepOf, goesOn, stagesLeft, toGo, StepFalls}
+use Rattle.listing.proofs.Inputs.{line-end, behind-low, behind-high}
+
+-- the first number is smaller, and the second no greater than the weight allows
+pub weigh : (a b w x y : ℕ) → a < b → x < w → a * w + x < b * w + y
+weigh a b w x y h k = let more : suc a ≤ b = omega arith in omega (arith, mul-le-mul-right w more, suc-mul a w)
+
+-- or no greater than it was
+weigh-same : (a b w x : ℕ) → a < b → 0 < w → a * w + x < b * w + x
+weigh-same a b w x h k = let more : suc a ≤ b = omega arith in omega (arith, mul-le-mul-right w more, suc-mul a w)
+
+module _ (input : List ℕ) (h : Held) where
+  -- what a step leaves is less
+  abbrev Less : Step → Type 0
+  Less s = toGo input (heldOf s) < toGo input h
+
+  -- nothing comes any more
+  over-less : 0 < stagesLeft (h .stage) → toGo input (over h) < toGo input h
+  over-less k = weigh-same _ _ _ (h .left) (omega arith) (omega arith)
+
+  check-less : h .stage ≡ Guests → (n : ℕ) → Less (checks n h)
+  check-less e zero = rw e (weigh _ _ _ 0 (h .left) (omega arith) (omega arith))
+  check-less e (suc n) = over-less (rw e (omega arith))
+
+  walk-less : h .stage ≡ Commands → 0 < h .left → Less (walks (h .left) (h .at) h)
+  walk-less e k = rw e (omega (arith, walk-left-falls (h .state) (h .left) k))
+
+  -- a line behind which the input goes on, or ends
+  module _ (end : ℕ) (low : h .at < end) (high : end ≤ length input) where
+    frame-less : h .stage ≡ Frames → (l : Line) → Less (frameLine l end h)
+    frame-less e (Frame f) = rw e (weigh _ _ _ 0 (h .left) (omega arith) (omega arith))
+    frame-less e (Guest q t) = over-less (rw e (omega arith))
+    frame-less e (Arrive i) = over-less (rw e (omega arith))
+    frame-less e (Done i) = over-less (rw e (omega arith))
+    frame-less e (Advance k) = over-less (rw e (omega arith))
+    frame-less e Malformed = over-less (rw e (omega arith))
+
+    guest-less : h .stage ≡ Guests → (l : Line) → Less (guestLine l end h)
+    guest-less e (Guest q t) = rw e (weigh _ _ _ 0 (h .left) (omega arith) (omega arith))
+    guest-less e (Frame f) = check-less e (first (tableRows (h .table)))
+    guest-less e (Arrive i) = check-less e (first (tableRows (h .table)))
+    guest-less e (Done i) = check-less e (first (tableRows (h .table)))
+    guest-less e (Advance k) = check-less e (first (tableRows (h .table)))
+    guest-less e Malformed = check-less e (first (tableRows (h .table)))
+
+    command-less : h .stage ≡ Commands → (l : Line) → Less (commandLine l end h)
+    command-less e (Arrive i) = rw e (weigh _ _ _ 0 (h .left) (omega arith) (omega arith))
+    command-less e (Done i) = rw e (weigh _ _ _ 0 (h .left) (omega arith) (omega arith))
+    command-less e (Advance k) = rw e (weigh _ _ _ (walkLeft k (h .state)) (h .left) (omega arith) (omega (arith, walk-left-bound (h .state) k)))
+    command-less e (Frame f) = over-less (rw e (omega arith))
+    command-less e (Guest q t) = over-less (rw e (omega arith))
+    command-less e Malformed = over-less (rw e (omega arith))
+
+  -- a step that looks at the line which comes next: at the end of the input there is none, and else it has an end
+  by-line : (f : Line → ℕ → Held → Step) → ((end : ℕ) → Less (f Malformed end h))
+      → ((end : ℕ) → h .at < end → end ≤ length input → (l : Line) → Less (f l end h)) → Less (f (lineAt input (h .at)) (behind input (h .at)) h)
+  by-line f none some =
+      let end = behind input (h .at) in
+      by-leb (λ _. Less (f (lineAt input (h .at)) end h)) (length input) (h .at)
+      (λ k. rw (line-end input (h .at) k) (none end))
+      (λ k. some end (behind-low input (h .at) k) (behind-high input (h .at) k) (lineAt input (h .at)))
+
+  falls-in : (stage : Stage) → h .stage ≡ stage → goesOn stage ≡ true → Less (stepIn stage input h)
+  falls-in Frames e g =
+      by-test (λ t. Less (cond t (stops 16 h) (frameLine (lineAt input (h .at)) (behind input (h .at)) h))) (ltb mostInput (length input))
+      (λ _. over-less (rw e (omega arith)))
+      (λ _. by-line frameLine (λ end. over-less (rw e (omega arith))) (λ end low high. frame-less end low high e))
+  falls-in Guests e g = by-line guestLine (λ end. check-less e (first (tableRows (h .table)))) (λ end low high. guest-less end low high e)
+  falls-in Commands e g =
+      let line = commandLine (lineAt input (h .at)) (behind input (h .at)) h in
+      let last = cond (leb (length input) (h .at)) (ends h) line in
+      by-ltb (λ t. Less (cond t (walks (h .left) (h .at) h) last)) 0 (h .left)
+      (walk-less e)
+      (λ _.
+      by-leb (λ t. Less (cond t (ends h) line)) (length input) (h .at)
+      (λ _. over-less (rw e (omega arith)))
+      (λ k. command-less (behind input (h .at)) (behind-low input (h .at) k) (behind-high input (h .at) k) e (lineAt input (h .at))))
+  falls-in Over e g = absurd (false≢true g)
+
+pub step-falls : StepFalls
+unfolding stepOf
+step-falls input h g = falls-in input h (h .stage) refl g

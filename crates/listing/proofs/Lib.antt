@@ -1,0 +1,9 @@
+-- Laws of the input's lines and of the steps.
+pub mod Worked
+pub mod Inputs
+pub mod Falling
+pub mod Resting
+pub mod Steps
+pub mod Doing
+pub mod Choosing
+pub mod Told

@@ -1,0 +1,73 @@
+-- The steps, one after the other, put out the listing of the input, and end.
+use mathlib.Core.Path.{_≡_, refl, sym, ap, _∙_}
+use mathlib.Core.Bool.{true, false, false≢true}
+use mathlib.Core.List.{List, [], _++_, append-nil, append-assoc}
+use Prim.Native.Nat.{ℕ, zero, suc, _≤_}
+use native.Mathlib.Omega.{arith}
+use Rattle.laws.proofs.Cases.{by-test}
+use Rattle.listing.specs.declared.Stage.{Stage}
+use Rattle.listing.specs.declared.Stage.the-variants.{Frames, Guests, Commands, Over}
+use Rattle.listing.specs.declared.Held.{Held}
+use Rattle.listing.specs.Listing.{listingOf}
+use Rattle.listing.specs.Stepping.{putOf, heldOf, stepIn, stepOf, goesOn, toGo, putOut, heldAfter, atFirst, StepsAreListing, StepsEnd}
+use Rattle.listing.proofs.Falling.{step-falls}
+use Rattle.listing.proofs.Resting.{rest, Fit, step-puts}
+
+-- ---- what they put out
+
+-- n steps put out the front of what is to be put out, and the rest is left
+steps-put : (n : ℕ) (input : List ℕ) (h : Held) → Fit h → rest input h ≡ putOut n input h ++ rest input (heldAfter n input h)
+unfolding putOut heldAfter
+steps-put zero input h f = refl
+steps-put (suc n) input h f =
+    let p = step-puts input h f in
+    let next = heldOf (stepOf input h) in
+    p .put ∙ ap (λ (x : List ℕ). putOf (stepOf input h) ++ x) (steps-put n input next (p .fit))
+    ∙ sym (append-assoc (putOf (stepOf input h)) (putOut n input next) (rest input (heldAfter n input next)))
+
+-- once the program is over, nothing is
+rest-over : (input : List ℕ) (h : Held) → goesOn (h .stage) ≡ false → rest input h ≡ []
+rest-over input h = go (h .stage) refl
+  where
+    go : (stage : Stage) → h .stage ≡ stage → goesOn stage ≡ false → rest input h ≡ []
+    go Frames e g = absurd (false≢true (sym g))
+    go Guests e g = absurd (false≢true (sym g))
+    go Commands e g = absurd (false≢true (sym g))
+    go Over e g = rw e refl
+
+pub steps-are-listing : StepsAreListing
+unfolding listingOf
+steps-are-listing input n g =
+    let all = steps-put n input atFirst tt in
+    sym (all ∙ ap (λ (x : List ℕ). putOut n input atFirst ++ x) (rest-over input (heldAfter n input atFirst) g) ∙ append-nil (putOut n input atFirst))
+
+-- ---- that they end
+
+-- a step of a program that is over changes nothing
+over-stays : (input : List ℕ) (h : Held) → goesOn (h .stage) ≡ false → heldOf (stepOf input h) ≡ h
+unfolding stepOf
+over-stays input h = go (h .stage) refl
+  where
+    go : (stage : Stage) → h .stage ≡ stage → goesOn stage ≡ false → heldOf (stepIn stage input h) ≡ h
+    go Frames e g = absurd (false≢true (sym g))
+    go Guests e g = absurd (false≢true (sym g))
+    go Commands e g = absurd (false≢true (sym g))
+    go Over e g = refl
+
+-- nor do more of them
+over-remains : (n : ℕ) (input : List ℕ) (h : Held) → goesOn (h .stage) ≡ false → heldAfter n input h ≡ h
+unfolding heldAfter
+over-remains zero input h g = refl
+over-remains (suc n) input h g = ap (heldAfter n input) (over-stays input h g) ∙ over-remains n input h g
+
+ends-from : (n : ℕ) (input : List ℕ) (h : Held) → toGo input h ≤ n → goesOn (heldAfter n input h .stage) ≡ false
+unfolding heldAfter
+ends-from zero input h l =
+    by-test (λ t. t ≡ false) (goesOn (h .stage)) (λ g. absurd (omega (arith, step-falls input h g))) (λ _. refl)
+ends-from (suc n) input h l =
+    by-test (λ _. goesOn (heldAfter (suc n) input h .stage) ≡ false) (goesOn (h .stage))
+    (λ g. ends-from n input (heldOf (stepOf input h)) (omega (arith, step-falls input h g)))
+    (λ g. ap (λ (x : Held). goesOn (x .stage)) (over-remains (suc n) input h g) ∙ g)
+
+pub steps-end : StepsEnd
+steps-end input n l = ends-from n input atFirst l

@@ -1,0 +1,213 @@
+-- One step of the program: what it puts out, what it holds next, and what the steps put out one after the other.
+use mathlib.Core.Path.{_≡_}
+use mathlib.Core.Bool.{Bool, true, false, cond}
+use mathlib.Core.List.{List, [], _∷_, _++_, map}
+use Prim.Native.Nat.{ℕ, zero, suc, _+_, _-_, _*_, _≤_, _<_}
+use lib.Dec.{ltb, leb, eqb}
+use lib.ListN.{length, take, drop}
+use lib.Seq.{sets}
+use Rattle.rules.specs.declared.Table.{Table}
+use Rattle.rules.specs.declared.State.{State}
+use Rattle.rules.specs.Limits.{portionPlaces, lastTick}
+use Rattle.rules.specs.Refusals.{first}
+use Rattle.rules.specs.Table.{tableRows, noTable}
+use Rattle.rules.specs.Places.{freshState, noState}
+use Rattle.rules.specs.Calls.{Call, arrives, finishes, advances, numberGiven, stateAfter}
+use Rattle.rules.specs.Walks.{portionPlace, walkLines, walkState, walkLeft}
+use Rattle.script.specs.declared.Line.{Line}
+use Rattle.script.specs.declared.Line.the-variants.{Frame, Guest, Arrive, Done, Advance, Malformed}
+use Rattle.script.specs.Script.{lineOf}
+use Rattle.lines.specs.Lines.{refusalBytes, endBytes, lineRoom}
+use Rattle.listing.specs.declared.Stage.{Stage}
+use Rattle.listing.specs.declared.Stage.the-variants.{Frames, Guests, Commands, Over}
+use Rattle.listing.specs.declared.Held.{Held}
+use Rattle.listing.specs.declared.Stepped.{Stepped}
+use Rattle.listing.specs.Listing.{refusalIn, portionsBytes, framed, withGuest, mostInput, listingOf}
+
+-- ---- the line that comes next
+
+-- how many bytes the first line has, its line feed with it
+unfoldable pub lineLength : List ℕ → ℕ
+lineLength [] = 0
+lineLength (b ∷ bs) = cond (eqb b 10) 1 (suc (lineLength bs))
+
+-- what the line at a place asks for
+unfoldable pub lineAt : List ℕ → ℕ → Line
+unfolding lineLength
+lineAt input at = let rest = drop at input in lineOf (take (lineLength rest) rest)
+
+-- the place behind it
+unfoldable pub behind : List ℕ → ℕ → ℕ
+unfolding lineLength
+behind input at = at + lineLength (drop at input)
+
+-- ---- one step
+
+-- the bytes that a step puts out, and what it holds next
+pub data Step : Type 0 where
+  step : (bytes : List ℕ) → (held : Held) → Step
+
+abbrev pub putOf : Step → List ℕ
+putOf (step bytes held) = bytes
+
+abbrev pub heldOf : Step → Held
+heldOf (step bytes held) = held
+
+-- nothing comes any more
+abbrev pub over : Held → Held
+over h = record { at = h .at; stage = Over; table = h .table; state = h .state; left = h .left }
+
+-- "print `! number` and stop the program"
+abbrev pub stops : ℕ → Held → Step
+stops n h = step (refusalBytes n) (over h)
+
+-- `G` lines may come next: the place of the next one, and the table so far
+abbrev pub withTable : ℕ → Table → State → Held
+withTable at table state = record { at = at; stage = Guests; table = table; state = state; left = 0 }
+
+-- the `F` line
+abbrev pub frameLine : Line → ℕ → Held → Step
+frameLine (Frame f) end h = step [] (withTable end (framed f) (h .state))
+frameLine (Guest q t) end h = stops 16 h
+frameLine (Arrive i) end h = stops 16 h
+frameLine (Done i) end h = stops 16 h
+frameLine (Advance k) end h = stops 16 h
+frameLine Malformed end h = stops 16 h
+
+-- commands come next: the place of the next one, the table, the state, and the ticks that are left
+abbrev pub goingOn : ℕ → Table → State → ℕ → Held
+goingOn at table state left = record { at = at; stage = Commands; table = table; state = state; left = left }
+
+-- the check of the table, before the line is looked at
+abbrev pub checks : ℕ → Held → Step
+checks zero h = step [] (goingOn (h .at) (h .table) (freshState (h .table)) 0)
+checks (suc n) h = stops (suc n) h
+
+-- a `G` line, or the first line that is none
+abbrev pub guestLine : Line → ℕ → Held → Step
+guestLine (Guest q t) end h = step [] (withTable end (withGuest q t (h .table)) (h .state))
+guestLine (Frame f) end h = checks (first (tableRows (h .table))) h
+guestLine (Arrive i) end h = checks (first (tableRows (h .table))) h
+guestLine (Done i) end h = checks (first (tableRows (h .table))) h
+guestLine (Advance k) end h = checks (first (tableRows (h .table))) h
+guestLine Malformed end h = checks (first (tableRows (h .table))) h
+
+-- an arrival or a completion
+abbrev pub calls : Call → ℕ → Held → Step
+calls c end h = step (refusalIn (numberGiven c (h .state))) (goingOn end (h .table) (stateAfter c (h .state)) 0)
+
+-- some portions of k ticks: those of one walk
+abbrev pub walks : ℕ → ℕ → Held → Step
+walks k end h =
+    step (refusalIn (numberGiven (advances k) (h .state)) ++ portionsBytes (map portionPlace (walkLines k (h .state))))
+    (goingOn end (h .table) (walkState k (h .state)) (walkLeft k (h .state)))
+
+-- a command
+abbrev pub commandLine : Line → ℕ → Held → Step
+commandLine (Arrive i) end h = calls (arrives i) end h
+commandLine (Done i) end h = calls (finishes i) end h
+commandLine (Advance k) end h = walks k end h
+commandLine (Frame f) end h = stops 16 h
+commandLine (Guest q t) end h = stops 16 h
+commandLine Malformed end h = stops 16 h
+
+-- "The last line is `end` and the tick."
+abbrev pub ends : Held → Step
+ends h = step (endBytes (h .state .now)) (over h)
+
+-- the ticks that an `R` has left come before the next line, and behind the last line comes the end
+abbrev pub commandStep : List ℕ → Held → Step
+commandStep input h =
+    cond (ltb 0 (h .left)) (walks (h .left) (h .at) h)
+    (cond (leb (length input) (h .at)) (ends h) (commandLine (lineAt input (h .at)) (behind input (h .at)) h))
+
+-- a step in each stage
+abbrev pub stepIn : Stage → List ℕ → Held → Step
+stepIn Frames input h = cond (ltb mostInput (length input)) (stops 16 h) (frameLine (lineAt input (h .at)) (behind input (h .at)) h)
+stepIn Guests input h = guestLine (lineAt input (h .at)) (behind input (h .at)) h
+stepIn Commands input h = commandStep input h
+stepIn Over input h = step [] h
+
+unfoldable pub stepOf : List ℕ → Held → Step
+unfolding lineAt behind
+stepOf input h = stepIn (h .stage) input h
+
+-- ---- in a lent buffer
+
+-- a step puts out at most a walk's portions
+abbrev pub stepRoom : ℕ
+stepRoom = portionPlaces * lineRoom
+
+abbrev pub mayStep : List ℕ → ℕ → Bool
+mayStep buffer filled = leb (filled + stepRoom) (length buffer)
+
+-- a step of the code: what is held next, how many bytes the buffer holds then, and its whole content; without room nothing happens
+pub record Stepping (input : List ℕ) (h : Held) (buffer : List ℕ) (filled : ℕ) (after : List ℕ) (r : Stepped) : Type 0 where
+  pub held : r .held ≡ cond (mayStep buffer filled) (heldOf (stepOf input h)) h
+  pub holds : r .filled ≡ cond (mayStep buffer filled) (filled + length (putOf (stepOf input h))) filled
+  pub content : after ≡ cond (mayStep buffer filled) (sets buffer filled (putOf (stepOf input h))) buffer
+  pub short : r .filled ≤ filled + stepRoom
+
+-- what the program holds at first
+abbrev pub atFirst : Held
+atFirst = record { at = 0; stage = Frames; table = noTable; state = noState; left = 0 }
+
+pub record Begun (r : Held) : Type 0 where
+  pub held : r ≡ atFirst
+
+-- whether more is to come
+abbrev pub goesOn : Stage → Bool
+goesOn Frames = true
+goesOn Guests = true
+goesOn Commands = true
+goesOn Over = false
+
+pub record GoingTold (stage : Stage) (r : Bool) : Type 0 where
+  pub answer : r ≡ goesOn stage
+
+-- any two outcomes that the predicates allow are equal
+pub record OneOutcome : Type 0 where
+  pub begin : (r r′ : Held) → Begun r → Begun r′ → r ≡ r′
+  pub going : (stage : Stage) (r r′ : Bool) → GoingTold stage r → GoingTold stage r′ → r ≡ r′
+  pub step :
+      (input : List ℕ) (h : Held) (buffer : List ℕ) (filled : ℕ) (after after′ : List ℕ) (r r′ : Stepped)
+      → Stepping input h buffer filled after r → Stepping input h buffer filled after′ r′ → (after ≡ after′) × (r ≡ r′)
+
+-- ---- a number that falls
+
+-- the stages that are still to come
+abbrev pub stagesLeft : Stage → ℕ
+stagesLeft Frames = 3
+stagesLeft Guests = 2
+stagesLeft Commands = 1
+stagesLeft Over = 0
+
+-- the bytes of the input that are left, then the stages, then the ticks that an `R` has left, no more than time has
+abbrev pub toGo : List ℕ → Held → ℕ
+toGo input h = (4 * (length input - h .at) + stagesLeft (h .stage)) * suc lastTick + h .left
+
+-- with each step, while more is to come
+abbrev pub StepFalls : Type 0
+StepFalls = (input : List ℕ) (h : Held) → goesOn (h .stage) ≡ true → toGo input (heldOf (stepOf input h)) < toGo input h
+
+-- ---- step after step
+
+-- what n steps put out, one after the other
+unfoldable pub putOut : ℕ → List ℕ → Held → List ℕ
+unfolding stepOf
+putOut zero input h = []
+putOut (suc n) input h = putOf (stepOf input h) ++ putOut n input (heldOf (stepOf input h))
+
+-- what is held after them
+unfoldable pub heldAfter : ℕ → List ℕ → Held → Held
+unfolding stepOf
+heldAfter zero input h = h
+heldAfter (suc n) input h = heldAfter n input (heldOf (stepOf input h))
+
+-- once the program is over, its steps have put out the listing of the input
+abbrev pub StepsAreListing : Type 0
+StepsAreListing = (input : List ℕ) (n : ℕ) → goesOn (heldAfter n input atFirst .stage) ≡ false → putOut n input atFirst ≡ listingOf input
+
+-- and it is over after so many steps
+abbrev pub StepsEnd : Type 0
+StepsEnd = (input : List ℕ) (n : ℕ) → toGo input atFirst ≤ n → goesOn (heldAfter n input atFirst .stage) ≡ false
