@@ -1,0 +1,2 @@
+-- What the loop of the program knows.
+pub mod Looping
