@@ -1,13 +1,18 @@
 //! Compares libboot.a with the second implementation on images made from a seed. No argument: all images;
-//! `few`: some two thousand, for valgrind; `write DIR`: no comparison, the sample images are written to DIR.
+//! `few`: some two thousand, for valgrind; `write DIR`: no comparison, the sample images are written to DIR;
+//! `scripts PROGRAM`: no images, the program's listings of scripts are compared instead. For inputs that a fuzzer has found:
+//! `replay PROGRAM PLAIN FOLDER...` holds two programs to the second implementation on the folders' scripts, and
+//! `images PLAIN FOLDER...` the archive and a program on their images; `seeds DIR` writes images for it to start with.
 
 mod archive;
 mod draft;
 mod faults;
+mod images;
 mod kinds;
 mod purpose;
 mod random;
 mod samples;
+mod scripts;
 mod tables;
 mod tally;
 
@@ -19,6 +24,8 @@ use faults::{Faults, SET_COUNT};
 use random::Random;
 use tally::Tally;
 
+const USAGE: &str = "usage: compare [few | write DIR | scripts PROGRAM \
+                     | replay PROGRAM PLAIN FOLDER... | images PLAIN FOLDER... | seeds DIR]";
 const DEFAULT_SEED: u64 = 212;
 /// The header promises that calls from several threads don't disturb one another, so two call at once.
 const THREADS: u64 = 2;
@@ -32,7 +39,15 @@ fn main() -> ExitCode {
         [] => seed().and_then(|seed| run(seed, ALL_ROUNDS)),
         ["few"] => seed().and_then(|seed| run(seed, FEW_ROUNDS)),
         ["write", folder] => samples::write(Path::new(folder)).map_err(|error| error.to_string()),
-        _ => Err("usage: compare [few | write DIR]".to_string()),
+        ["scripts", program] => seed().and_then(|seed| scripts::run(Path::new(program), seed)),
+        ["replay", program, plain, ref folders @ ..] => {
+            scripts::replay::run(Path::new(program), Path::new(plain), folders)
+        }
+        ["images", plain, ref folders @ ..] => images::run(Path::new(plain), folders),
+        ["seeds", folder] => seed().and_then(|seed| {
+            images::write_seeds(Path::new(folder), seed).map_err(|error| error.to_string())
+        }),
+        _ => Err(USAGE.to_string()),
     };
     let Err(reason) = outcome else {
         return ExitCode::SUCCESS;

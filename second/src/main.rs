@@ -1,11 +1,26 @@
-//! The command-line program: standard input in, listing out.
+//! The command-line program. No argument: standard input in, listing out; `borders`: the border pairs.
 
-use std::io::{stdin, stdout, BufWriter, Write};
-use std::process::exit;
+use std::env::args_os;
+use std::io::{stdin, stdout, BufWriter, Result, Write};
+use std::process::{exit, ExitCode};
 
+use second::borders::report;
 use second::program::{read_input, run};
 
-fn main() {
+fn main() -> ExitCode {
+    let mut arguments = args_os().skip(1);
+    match (arguments.next(), arguments.next()) {
+        (None, None) => print_listing(),
+        (Some(word), None) if word == "borders" => print_borders(),
+        _ => {
+            eprintln!("usage: second [borders]");
+            return ExitCode::from(2);
+        }
+    }
+    ExitCode::SUCCESS
+}
+
+fn print_listing() {
     let input = read_input(stdin().lock());
     let mut output = BufWriter::new(stdout().lock());
     run(&input, &mut |line| {
@@ -14,8 +29,12 @@ fn main() {
     stop_on_failure(output.flush());
 }
 
+fn print_borders() {
+    stop_on_failure(stdout().write_all(report().as_bytes()));
+}
+
 /// Without an output there is nothing left to do, and an advance may have very many ticks to go.
-fn stop_on_failure(written: std::io::Result<()>) {
+fn stop_on_failure(written: Result<()>) {
     if written.is_err() {
         exit(1);
     }

@@ -1,4 +1,4 @@
-//! The program as it is started: standard input, standard output, too much input, failing reads.
+//! The program as it is started: its arguments, standard input, standard output, too much input, failing reads.
 
 use std::fs::File;
 use std::io::Write;
@@ -63,4 +63,23 @@ fn standard_input_that_cannot_be_read() {
     let folder = File::open(env!("CARGO_MANIFEST_DIR")).unwrap();
     let outcome = program().stdin(folder).output().unwrap();
     assert_eq!(outcome.stdout, b"! 16\n");
+}
+
+#[test]
+fn border_pairs() {
+    let outcome = program().arg("borders").output().unwrap();
+    let expected = "17592185 ticks: 0 0 0 0\n17592186 ticks: 0 0 0 6\n\
+                    image of 19 bytes: 8\nguest 16, state not sound: 1\n";
+    assert_eq!(String::from_utf8(outcome.stdout).unwrap(), expected);
+    assert_eq!(outcome.status.code(), Some(0));
+}
+
+#[test]
+fn wrong_arguments() {
+    for words in [vec!["border"], vec![""], vec!["borders", "borders"]] {
+        let outcome = program().args(words).output().unwrap();
+        assert_eq!(outcome.status.code(), Some(2));
+        assert_eq!(outcome.stderr, b"usage: second [borders]\n");
+        assert!(outcome.stdout.is_empty());
+    }
 }

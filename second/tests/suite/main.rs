@@ -3,6 +3,8 @@
 mod binary;
 mod borders;
 mod calls;
+mod corpus;
+mod corpus_outputs;
 mod image;
 mod listing;
 mod program;
