@@ -1,8 +1,9 @@
-# The README's commands: `make demo` shows the worked listing, `make test` is the whole gate. `make valgrind` and `make bench` want valgrind.
-.PHONY: demo test valgrind bench
+# The README's commands: `make demo` shows the worked listing and its picture, `make test` is the whole gate. `make valgrind` and `make bench`
+# want valgrind, and `make fuzz` installs a fuzzer.
+.PHONY: demo test valgrind bench fuzz
 
 demo:
-	@cargo run --quiet --offline --release --manifest-path second/Cargo.toml < examples/listing.txt
+	@tools/demo
 
 test:
 	@tools/test
@@ -14,3 +15,9 @@ valgrind:
 
 bench:
 	@bench/run
+	@bench/program
+
+fuzz:
+	@rt check schedule
+	@rt staticlib boot
+	@tools/fuzz
