@@ -8,6 +8,7 @@ use crate::Held;
 use crate::Stage;
 use crate::Stepped;
 use crate::input::next_line;
+use crate::put::MALFORMED;
 use crate::put::over;
 use crate::put::put_portions;
 use crate::put::stopped;
@@ -81,7 +82,7 @@ fn command_line(line: Line, end: usize, h: Held, buffer: &mut [u8], filled: usiz
             called(outcome, end, h, buffer, filled)
         }
         Line::Advance(k) => walked(k, end, h, buffer, filled),
-        _ => stopped(16, h, buffer, filled),
+        _ => stopped(MALFORMED, h, buffer, filled),
     }
 }
 

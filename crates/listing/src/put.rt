@@ -11,6 +11,9 @@ use crate::Stepped;
 use rules::PORTION_PLACES;
 use rules::Portion;
 
+// "a line of program input is malformed", or out of order, or there is too much input.
+pub(crate) const MALFORMED: u64 = 16;
+
 // Nothing comes any more.
 pub(crate) fn over(h: Held) -> Held
     ensures { λ r. ⌜ r ≡ over h ⌝ }

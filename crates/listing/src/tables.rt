@@ -14,6 +14,7 @@ use crate::Stage;
 use crate::Stepped;
 use crate::commands::going_on;
 use crate::input::next_line;
+use crate::put::MALFORMED;
 use crate::put::stopped;
 use rules::Answer;
 use rules::Entry;
@@ -75,7 +76,7 @@ pub(crate) fn frame_step(input: &[u8], h: Held, buffer: &mut [u8], filled: usize
     ensures { λ r. ⌜ Did (stepIn Frames (now (input .entry)) h) (now (buffer .entry)) filled (now (buffer .exit)) r ⌝ }
 {
     if MOST_INPUT < input.len() {
-        return stopped(16, h, buffer, filled);
+        return stopped(MALFORMED, h, buffer, filled);
     }
     let state = h.state;
     let next = next_line(input, h.at);
@@ -86,7 +87,7 @@ pub(crate) fn frame_step(input: &[u8], h: Held, buffer: &mut [u8], filled: usize
             let held = with_table(next.end, table, state);
             Stepped { held, filled }
         }
-        _ => stopped(16, h, buffer, filled),
+        _ => stopped(MALFORMED, h, buffer, filled),
     }
 }
 
