@@ -137,6 +137,16 @@ module _ {input : List ℕ} {h : Held} {buffer after : List ℕ} {filled : ℕ} 
       ap length (s .content)
       ∙ by-test (λ t. length (cond t (sets buffer filled (putOf (stepOf input h))) buffer) ≡ length buffer) (mayStep buffer filled) (λ _. length-sets buffer filled (putOf (stepOf input h))) (λ _. refl)
 
-  -- with room the next is held
-  pub stepping-held : filled + stepRoom ≤ length buffer → r .held ≡ heldOf (stepOf input h)
-  stepping-held k = s .held ∙ rw (le-leb (filled + stepRoom) (length buffer) k) refl
+  module _ (k : filled + stepRoom ≤ length buffer) where
+    some : mayStep buffer filled ≡ true
+    some = le-leb (filled + stepRoom) (length buffer) k
+
+    -- with room the next is held, and the bytes are put
+    pub stepping-held : r .held ≡ heldOf (stepOf input h)
+    stepping-held = s .held ∙ rw some refl
+
+    pub stepping-holds : r .filled ≡ filled + length (putOf (stepOf input h))
+    stepping-holds = s .holds ∙ rw some refl
+
+    pub stepping-content : after ≡ sets buffer filled (putOf (stepOf input h))
+    stepping-content = s .content ∙ rw some refl

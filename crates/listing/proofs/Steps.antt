@@ -2,7 +2,8 @@
 use mathlib.Core.Path.{_≡_, refl, sym, ap, _∙_}
 use mathlib.Core.Bool.{true, false, false≢true}
 use mathlib.Core.List.{List, [], _++_, append-nil, append-assoc}
-use Prim.Native.Nat.{ℕ, zero, suc, _≤_}
+use Prim.Native.Nat.{ℕ, zero, suc, _+_, _≤_}
+use native.Mathlib.Nat.{zero-add, suc-add}
 use native.Mathlib.Omega.{arith}
 use Rattle.laws.proofs.Cases.{by-test}
 use Rattle.listing.specs.declared.Stage.{Stage}
@@ -24,6 +25,36 @@ steps-put (suc n) input h f =
     let next = heldOf (stepOf input h) in
     p .put ∙ ap (λ (x : List ℕ). putOf (stepOf input h) ++ x) (steps-put n input next (p .fit))
     ∙ sym (append-assoc (putOf (stepOf input h)) (putOut n input next) (rest input (heldAfter n input next)))
+
+-- one step more: what it puts out comes behind
+pub put-more : (n : ℕ) (input : List ℕ) (h : Held) → putOut (suc n) input h ≡ putOut n input h ++ putOf (stepOf input (heldAfter n input h))
+unfolding putOut heldAfter
+put-more zero input h = append-nil (putOf (stepOf input h))
+put-more (suc n) input h =
+    let next = heldOf (stepOf input h) in
+    ap (λ (x : List ℕ). putOf (stepOf input h) ++ x) (put-more n input next)
+    ∙ sym (append-assoc (putOf (stepOf input h)) (putOut n input next) (putOf (stepOf input (heldAfter n input next))))
+
+-- and what it holds next is held
+pub held-more : (n : ℕ) (input : List ℕ) (h : Held) → heldAfter (suc n) input h ≡ heldOf (stepOf input (heldAfter n input h))
+unfolding heldAfter
+held-more zero input h = refl
+held-more (suc n) input h = held-more n input (heldOf (stepOf input h))
+
+-- a steps and then b
+pub put-then : (a b : ℕ) (input : List ℕ) (h : Held) → putOut (a + b) input h ≡ putOut a input h ++ putOut b input (heldAfter a input h)
+unfolding putOut heldAfter
+put-then zero b input h = rw zero-add refl
+put-then (suc a) b input h =
+    let next = heldOf (stepOf input h) in
+    rw suc-add
+    (ap (λ (x : List ℕ). putOf (stepOf input h) ++ x) (put-then a b input next)
+    ∙ sym (append-assoc (putOf (stepOf input h)) (putOut a input next) (putOut b input (heldAfter a input next))))
+
+pub held-then : (a b : ℕ) (input : List ℕ) (h : Held) → heldAfter (a + b) input h ≡ heldAfter b input (heldAfter a input h)
+unfolding heldAfter
+held-then zero b input h = rw zero-add refl
+held-then (suc a) b input h = rw suc-add (held-then a b input (heldOf (stepOf input h)))
 
 -- once the program is over, nothing is
 rest-over : (input : List ℕ) (h : Held) → goesOn (h .stage) ≡ false → rest input h ≡ []

@@ -1,2 +1,3 @@
--- What the loop of the program knows.
+-- What the loops of the program know, and what its fillings are.
 pub mod Looping
+pub mod Fillings

@@ -2,37 +2,56 @@
 ghost use Prim.Native.Nat.{_≤_};
 ghost use lib.ListN.{length};
 ghost use Rattle.listing.specs.Stepping.{stepRoom};
+ghost use Rattle.schedule.specs.Filling.{Filled};
 use libc::STDIN_FILENO;
 use libc::STDOUT_FILENO;
+use listing::Held;
 use listing::MOST_INPUT;
 use listing::STEP_ROOM;
+use listing::Stepped;
 
 // One byte more than the program takes, so that too much input is seen.
 const INPUT_PLACES: usize = MOST_INPUT + 1;
 
-// Step after step. A full buffer is written before the next step, and a write that fails ends the program.
-fn run(input: &[u8], buffer: &mut [u8])
+// Step after step, until the buffer has no room for another one or no more is to come.
+fn fill(input: &[u8], from: Held, buffer: &mut [u8]) -> Stepped
     requires { ⌜ stepRoom ≤ length (now buffer) ⌝ }
+    ensures { λ r. ⌜ Filled (now (input .entry)) from (now (buffer .exit)) r ⌝ }
 {
-    let mut held = listing::begin();
+    let mut held = from;
     let mut filled: usize = 0;
-    let mut going = true;
+    let first = from.stage;
+    let mut going = listing::is_going(first);
     while going {
-        if buffer.len() - filled < STEP_ROOM {
-            if !io::write_all(STDOUT_FILENO, &buffer[..filled]) {
-                return;
-            }
-            filled = 0;
-            continue;
-        }
         let stepped = listing::step(input, held, buffer, filled);
         let next = stepped.held;
         held = next;
         filled = stepped.filled;
         let stage = next.stage;
+        let more = listing::is_going(stage);
+        let room = STEP_ROOM <= buffer.len() - filled;
+        going = more & room;
+    }
+    Stepped { held, filled }
+}
+
+// Each full buffer is written whole, and a write that fails ends the program.
+fn run(input: &[u8], buffer: &mut [u8])
+    requires { ⌜ stepRoom ≤ length (now buffer) ⌝ }
+{
+    let mut held = listing::begin();
+    let mut going = true;
+    while going {
+        let stepped = fill(input, held, buffer);
+        let filled = stepped.filled;
+        if !io::write_all(STDOUT_FILENO, &buffer[..filled]) {
+            return;
+        }
+        let next = stepped.held;
+        held = next;
+        let stage = next.stage;
         going = listing::is_going(stage);
     }
-    io::write_all(STDOUT_FILENO, &buffer[..filled]);
 }
 
 fn main() {
