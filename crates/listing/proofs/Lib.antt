@@ -4,6 +4,4 @@ pub mod Inputs
 pub mod Falling
 pub mod Resting
 pub mod Steps
-pub mod Doing
-pub mod Choosing
 pub mod Told

@@ -18,4 +18,4 @@ worked-holds = refl
 
 pub order-holds : OrderHolds
 unfolding listingOf asked listed guests checked commands printed lineOf portionBytes refusalBytes endBytes decimal goodTable arrive done renewed next serve tick advance ask model packed freshState inRange sound stateAfter lines linesOf
-order-holds = record { empty = refl; cutOff = refl; noGuest = refl; tableAlone = refl; tableFirst = refl; carriedOut = refl }
+order-holds = record { empty = refl; cutOff = refl; noGuest = refl; tableAlone = refl; tableFirst = refl; carriedOut = refl; refusalGoesOn = refl }

@@ -54,3 +54,5 @@ pub record OrderHolds : Type 0 where
   pub tableFirst : listingOf ((70 ∷ 32 ∷ 56 ∷ 10 ∷ []) ++ (71 ∷ 32 ∷ 51 ∷ 32 ∷ 52 ∷ 10 ∷ []) ++ (71 ∷ 32 ∷ 51 ∷ 32 ∷ 56 ∷ 10 ∷ []) ++ (88 ∷ 10 ∷ [])) ≡ refusalBytes 14
   -- `F 8`, `G 3 4`, `A 0`, `R 1`, `R 1` without its line feed: "lines before a malformed one are carried out first"
   pub carriedOut : listingOf ((70 ∷ 32 ∷ 56 ∷ 10 ∷ []) ++ (71 ∷ 32 ∷ 51 ∷ 32 ∷ 52 ∷ 10 ∷ []) ++ (65 ∷ 32 ∷ 48 ∷ 10 ∷ []) ++ (82 ∷ 32 ∷ 49 ∷ 10 ∷ []) ++ (82 ∷ 32 ∷ 49 ∷ [])) ≡ (48 ∷ 32 ∷ 49 ∷ 32 ∷ 48 ∷ 32 ∷ 48 ∷ 111 ∷ 10 ∷ []) ++ refusalBytes 16
+  -- `F 8`, `G 3 4`, `D 0`: "2 to 7 print `! number` and the program goes on"
+  pub refusalGoesOn : listingOf ((70 ∷ 32 ∷ 56 ∷ 10 ∷ []) ++ (71 ∷ 32 ∷ 51 ∷ 32 ∷ 52 ∷ 10 ∷ []) ++ (68 ∷ 32 ∷ 48 ∷ 10 ∷ [])) ≡ refusalBytes 3 ++ endBytes 0

@@ -1,26 +1,10 @@
-// The program step by step: each step takes the input and what is held, puts out some bytes and gives what is held next.
-ghost use mathlib.Core.Path.{_≡_};
-ghost use Prim.Native.Nat.{_+_};
-ghost use lib.Dec.{leb};
-ghost use Rattle.listing.specs.Stepping.{Begun, GoingTold, Stepping, stepRoom};
-use crate::commands::command_step;
-use crate::tables::frame_step;
-use crate::tables::guest_step;
-use lines::LINE_ROOM;
-use rules::PORTION_PLACES;
+// What the program holds between two steps; specs/ has its whole output as a definition, and what a step does.
+ghost use Rattle.listing.specs.Stepping.{Begun, GoingTold};
 use rules::State;
 use rules::Table;
 
-mod commands;
-mod input;
-mod put;
-mod tables;
-
 // The most input that the program takes; with one byte more it is refused.
 pub const MOST_INPUT: usize = 65536;
-
-// A step puts out at most the portions of one walk.
-pub const STEP_ROOM: usize = PORTION_PLACES * LINE_ROOM;
 
 // Which lines come next: the `F` line, `G` lines, commands, or none.
 pub enum Stage {
@@ -71,30 +55,5 @@ pub fn is_going(stage: Stage) -> bool
         Stage::Guests => true,
         Stage::Commands => true,
         Stage::Over => false,
-    }
-}
-
-// The sum of filled and the room is not made, because it could wrap.
-fn may_step(length: usize, filled: usize) -> bool
-    ensures { λ r. ⌜ r ≡ leb (filled + stepRoom) length ⌝ }
-{
-    if length < STEP_ROOM {
-        return false;
-    }
-    filled <= length - STEP_ROOM
-}
-
-pub fn step(input: &[u8], h: Held, buffer: &mut [u8], filled: usize) -> Stepped
-    ensures { λ r. ⌜ Stepping (now (input .entry)) h (now (buffer .entry)) filled (now (buffer .exit)) r ⌝ }
-{
-    if !may_step(buffer.len(), filled) {
-        return Stepped { held: h, filled };
-    }
-    let stage = h.stage;
-    match stage {
-        Stage::Frames => frame_step(input, h, buffer, filled),
-        Stage::Guests => guest_step(input, h, buffer, filled),
-        Stage::Commands => command_step(input, h, buffer, filled),
-        Stage::Over => Stepped { held: h, filled },
     }
 }

@@ -1,13 +1,12 @@
 -- Fillings, one after the other, are the listing of the input.
 use mathlib.Core.Path.{_≡_, refl, sym, ap, _∙_}
-use mathlib.Core.Bool.{false}
 use mathlib.Core.List.{List, _++_}
 use Prim.Native.Nat.{ℕ, _+_}
 use lib.ListN.{take}
 use Rattle.listing.specs.declared.Held.{Held}
 use Rattle.listing.specs.Stepping.{goesOn, putOut, heldAfter, atFirst}
 use Rattle.listing.proofs.Steps.{put-then, held-then, steps-are-listing}
-use Rattle.schedule.specs.Filling.{Filled, Fillings, begun, filled, FillingsAreListing}
+use Rattle.schedule.specs.Filling.{Fillings, begun, filled, FillingsAreListing}
 
 -- so many steps were made in all
 record Made (input : List ℕ) (h : Held) (bytes : List ℕ) : Type 0 where

@@ -1,7 +1,7 @@
 -- What the loop that fills the buffer knows between two steps.
 use mathlib.Core.Path.{_≡_, refl, sym, ap, _∙_}
 use mathlib.Core.Bool.{Bool, true, false, _&&_, false≢true}
-use mathlib.Core.List.{List, [], _++_}
+use mathlib.Core.List.{List, _++_}
 use Prim.Native.Nat.{ℕ, suc, _+_, _-_, _≤_, _<_}
 use native.Mathlib.Omega.{arith}
 use lib.Dec.{leb}
@@ -14,7 +14,7 @@ use Rattle.listing.specs.declared.Stepped.{Stepped}
 use Rattle.listing.specs.Stepping.{putOf, heldOf, stepOf, goesOn, toGo, stepRoom, putOut, heldAfter, Begun, GoingTold, Stepping}
 use Rattle.listing.proofs.Falling.{step-falls}
 use Rattle.listing.proofs.Steps.{put-more, held-more}
-use Rattle.listing.proofs.Choosing.{stepping-long, stepping-held, stepping-holds, stepping-content}
+use Rattle.stepping.proofs.Choosing.{stepping-long, stepping-held, stepping-holds, stepping-content}
 use Rattle.schedule.specs.Filling.{Filled}
 
 -- what is stored behind the front comes behind it

@@ -7,8 +7,8 @@ use libc::STDIN_FILENO;
 use libc::STDOUT_FILENO;
 use listing::Held;
 use listing::MOST_INPUT;
-use listing::STEP_ROOM;
 use listing::Stepped;
+use stepping::STEP_ROOM;
 
 // One byte more than the program takes, so that too much input is seen.
 const INPUT_PLACES: usize = MOST_INPUT + 1;
@@ -23,7 +23,7 @@ fn fill(input: &[u8], from: Held, buffer: &mut [u8]) -> Stepped
     let first = from.stage;
     let mut going = listing::is_going(first);
     while going {
-        let stepped = listing::step(input, held, buffer, filled);
+        let stepped = stepping::step(input, held, buffer, filled);
         let next = stepped.held;
         held = next;
         filled = stepped.filled;

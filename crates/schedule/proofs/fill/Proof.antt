@@ -1,5 +1,4 @@
 -- `schedule::fill` meets its contract: at each turn so many steps were made, and their bytes stand at the buffer's front.
-use native.Mathlib.Omega.{arith}
 use denote.Ref.{now}
 use Rattle.listing.specs.Stepping.{toGo}
 use Rattle.schedule.proofs.Looping.{Filling, filling-start, filling-end, filling-less, filling-inside, filling-more}

@@ -1,0 +1,152 @@
+-- Which case a step is: by the stage, the line that comes next, and the input's end.
+use mathlib.Core.Path.{_≡_, refl, sym, ap, _∙_}
+use mathlib.Core.Bool.{Bool, true, false, cond, not}
+use mathlib.Core.List.{List, [], _∷_}
+use Prim.Native.Nat.{ℕ, _+_, _≤_, _<_}
+use native.Mathlib.Omega.{arith}
+use lib.ListN.{length}
+use lib.Seq.{sets, length-sets}
+use denote.Enum.Declared.{tagOf}
+use types.Run.{OneOf, miss}
+use borrow.Author.Tests.{lt-ltb, le-ltb, le-leb, lt-leb, leb-true, not-true, not-false}
+use Rattle.laws.proofs.Cases.{by-test}
+use Rattle.rules.specs.declared.Table.{Table}
+use Rattle.rules.specs.declared.Outcome.{Outcome}
+use Rattle.rules.specs.Refusals.{first}
+use Rattle.rules.specs.Table.{tableRows}
+use Rattle.rules.specs.Calls.{Arrived, Finished, stateAfter}
+use Rattle.script.specs.declared.Line.{Line}
+use Rattle.script.specs.declared.Line.the-variants.{Frame, Guest, Arrive, Done, Advance, Malformed}
+use Rattle.script.proofs.Line as declared-line
+use Rattle.listing.specs.declared.Stage.{Stage}
+use Rattle.listing.specs.declared.Stage.the-variants.{Frames, Guests}
+use Rattle.listing.specs.declared.Held.{Held}
+use Rattle.listing.specs.declared.Stepped.{Stepped}
+use Rattle.listing.specs.Listing.{framed, withGuest, mostInput}
+use Rattle.listing.specs.Stepping.{lineAt, behind, Step, step, putOf, heldOf, stops, ends, withTable, frameLine, checks, guestLine, walks, commandLine, commandStep, stepIn, stepOf, stepRoom, mayStep, Stepping}
+use Rattle.stepping.specs.Parts.{Did, called}
+
+-- ---- another line
+
+module _ (end : ℕ) (h : Held) where
+  pub frame-other : (l : Line) → OneOf (1 ∷ 2 ∷ 3 ∷ 4 ∷ 5 ∷ []) (tagOf declared-line.the-type l) → frameLine l end h ≡ stops 16 h
+  frame-other (Frame f) k = absurd (miss (1 ∷ 2 ∷ 3 ∷ 4 ∷ 5 ∷ []) 0 tt k)
+  frame-other (Guest q t) k = refl
+  frame-other (Arrive i) k = refl
+  frame-other (Done i) k = refl
+  frame-other (Advance n) k = refl
+  frame-other Malformed k = refl
+
+  pub guest-other : (l : Line) → OneOf (0 ∷ 2 ∷ 3 ∷ 4 ∷ 5 ∷ []) (tagOf declared-line.the-type l) → guestLine l end h ≡ checks (first (tableRows (h .table))) h
+  guest-other (Frame f) k = refl
+  guest-other (Guest q t) k = absurd (miss (0 ∷ 2 ∷ 3 ∷ 4 ∷ 5 ∷ []) 1 tt k)
+  guest-other (Arrive i) k = refl
+  guest-other (Done i) k = refl
+  guest-other (Advance n) k = refl
+  guest-other Malformed k = refl
+
+  pub command-other : (l : Line) → OneOf (0 ∷ 1 ∷ 5 ∷ []) (tagOf declared-line.the-type l) → commandLine l end h ≡ stops 16 h
+  command-other (Frame f) k = refl
+  command-other (Guest q t) k = refl
+  command-other (Arrive i) k = absurd (miss (0 ∷ 1 ∷ 5 ∷ []) 2 tt k)
+  command-other (Done i) k = absurd (miss (0 ∷ 1 ∷ 5 ∷ []) 3 tt k)
+  command-other (Advance n) k = absurd (miss (0 ∷ 1 ∷ 5 ∷ []) 4 tt k)
+  command-other Malformed k = refl
+
+-- ---- the line of a stage
+
+module _ (h : Held) {l : Line} {end : ℕ} where
+  pub framed-step : {f : ℕ} → l ≡ Frame f → {table : Table} {held : Held} → table ≡ framed f → held ≡ withTable end table (h .state) → frameLine l end h ≡ step [] held
+  framed-step e t e′ = rw (e, e′, t) refl
+
+  pub guest-step : {q p : ℕ} → l ≡ Guest q p → {table : Table} {held : Held} → table ≡ withGuest q p (h .table) → held ≡ withTable end table (h .state) → guestLine l end h ≡ step [] held
+  guest-step e t e′ = rw (e, e′, t) refl
+
+module _ (end : ℕ) (h : Held) {l : Line} where
+  pub arrive-line : {i : ℕ} → l ≡ Arrive i → {r : Outcome} → Arrived (h .state) i r → commandLine l end h ≡ called r end h
+  unfolding stateAfter
+  arrive-line e a = rw (e, a .answer, a .state) refl
+
+  pub done-line : {i : ℕ} → l ≡ Done i → {r : Outcome} → Finished (h .state) i r → commandLine l end h ≡ called r end h
+  unfolding stateAfter
+  done-line e a = rw (e, a .answer, a .state) refl
+
+  pub advance-line : {k : ℕ} → l ≡ Advance k → commandLine l end h ≡ walks k end h
+  advance-line e = rw e refl
+
+-- ---- the line that comes next
+
+module _ (input : List ℕ) (h : Held) where
+  pub frames-long : mostInput < length input → stepIn Frames input h ≡ stops 16 h
+  frames-long k = rw (lt-ltb mostInput (length input) k) refl
+
+  pub commands-left : 0 < h .left → commandStep input h ≡ walks (h .left) (h .at) h
+  commands-left k = rw (lt-ltb 0 (h .left) k) refl
+
+  pub commands-end : h .left ≤ 0 → length input ≤ h .at → commandStep input h ≡ ends h
+  commands-end k e = rw (le-ltb 0 (h .left) k, le-leb (length input) (h .at) e) refl
+
+  module _ {l : Line} {end : ℕ} (next : (l ≡ lineAt input (h .at)) × (end ≡ behind input (h .at))) where
+    pub frames-line : length input ≤ mostInput → stepIn Frames input h ≡ frameLine l end h
+    frames-line k = rw (le-ltb mostInput (length input) k, next .0, next .1) refl
+
+    pub guests-line : stepIn Guests input h ≡ guestLine l end h
+    guests-line = rw (next .0, next .1) refl
+
+    pub commands-line : h .left ≤ 0 → h .at < length input → commandStep input h ≡ commandLine l end h
+    commands-line k e = rw (le-ltb 0 (h .left) k, lt-leb (length input) (h .at) e, next .0, next .1) refl
+
+-- ---- a step, and its case
+
+pub did-as : {s t : Step} {buffer after : List ℕ} {filled : ℕ} {r : Stepped} → s ≡ t → Did t buffer filled after r → Did s buffer filled after r
+did-as e d = rw e d
+
+pub did-long : {s : Step} {buffer after : List ℕ} {filled : ℕ} {r : Stepped} → Did s buffer filled after r → length after ≡ length buffer
+did-long {s} {buffer} {filled = filled} d = ap length (d .content) ∙ length-sets buffer filled (putOf s)
+
+module _ (input : List ℕ) (h : Held) (buffer : List ℕ) (filled : ℕ) {may : Bool} (told : may ≡ mayStep buffer filled) where
+  -- without room nothing happens
+  pub step-kept : not may ≡ true → Stepping input h buffer filled buffer (record { held = h; filled = filled })
+  step-kept e =
+      let none : mayStep buffer filled ≡ false = sym told ∙ not-true may e in
+      record { held = rw none refl; holds = rw none refl; content = rw none refl; short = omega arith }
+
+  module _ (e : not may ≡ false) where
+    pub step-room : filled + stepRoom ≤ length buffer
+    step-room = leb-true (filled + stepRoom) (length buffer) (sym told ∙ not-false may e)
+
+    -- with room the step of its stage does
+    pub step-done : (stage : Stage) → h .stage ≡ stage → {after : List ℕ} {r : Stepped} → Did (stepIn stage input h) buffer filled after r → Stepping input h buffer filled after r
+    unfolding stepOf
+    step-done stage f d =
+        let some : mayStep buffer filled ≡ true = sym told ∙ not-false may e in
+        let same : stepIn stage input h ≡ stepOf input h = ap (λ (x : Stage). stepIn x input h) (sym f) in
+        record {
+          held = rw some (d .held ∙ ap heldOf same);
+          holds = rw some (d .holds ∙ ap (λ (x : Step). filled + length (putOf x)) same);
+          content = rw some (d .content ∙ ap (λ (x : Step). sets buffer filled (putOf x)) same);
+          short = d .short;
+        }
+
+-- ---- what a caller learns of a step
+
+module _ {input : List ℕ} {h : Held} {buffer after : List ℕ} {filled : ℕ} {r : Stepped} (s : Stepping input h buffer filled after r) where
+  -- the buffer is as long as before
+  pub stepping-long : length after ≡ length buffer
+  stepping-long =
+      ap length (s .content)
+      ∙ by-test (λ t. length (cond t (sets buffer filled (putOf (stepOf input h))) buffer) ≡ length buffer) (mayStep buffer filled) (λ _. length-sets buffer filled (putOf (stepOf input h))) (λ _. refl)
+
+  module _ (k : filled + stepRoom ≤ length buffer) where
+    some : mayStep buffer filled ≡ true
+    some = le-leb (filled + stepRoom) (length buffer) k
+
+    -- with room the next is held, and the bytes are put
+    pub stepping-held : r .held ≡ heldOf (stepOf input h)
+    stepping-held = s .held ∙ rw some refl
+
+    pub stepping-holds : r .filled ≡ filled + length (putOf (stepOf input h))
+    stepping-holds = s .holds ∙ rw some refl
+
+    pub stepping-content : after ≡ sets buffer filled (putOf (stepOf input h))
+    stepping-content = s .content ∙ rw some refl

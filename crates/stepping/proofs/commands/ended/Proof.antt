@@ -1,0 +1,29 @@
+-- `stepping::commands::ended` meets its contract.
+use mathlib.Core.Path.{sym, ap}
+use native.Mathlib.Omega.{arith}
+use Rattle.lines.proofs.Putting.{line-long}
+use Rattle.lines.specs.Lines.{endBytes}
+use Rattle.listing.specs.Stepping.{step}
+use Rattle.stepping.proofs.Doing.{did-line}
+use borrow.Author.Needs.{needs}
+use Rattle.stepping.proofs.commands.ended.Statement.{statement}
+use Rattle.stepping.proofs.commands.ended.Tie as tie
+
+over-requires : tie.Need-over-requires
+over-requires c κs = search needs
+
+put-end-requires : tie.Need-put-end-requires
+put-end-requires c κs = search needs
+
+same-length : tie.Need-same-length
+same-length c = line-long (c .before .before .put-end .ensures)
+
+returns : tie.Need-returns
+returns c =
+    let put = c .before .before in
+    let held = put .before .before .before in
+    let a = held .before .before .args in
+    did-line (put .put-end .ensures) (omega arith) (ap (step (endBytes (a .h .state .now))) (sym (held .over .ensures)))
+
+pub ended-spec : {M : Type 1} → statement M
+ended-spec = tie.close (tie.spec over-requires put-end-requires same-length returns)

@@ -1,0 +1,112 @@
+// The commands: arrive, done and advance, each on the state that is held.
+ghost use mathlib.Core.Path.{_≡_};
+ghost use Prim.Native.Nat.{_+_, _≤_};
+ghost use lib.ListN.{length};
+ghost use Rattle.listing.specs.Stepping.{stepRoom, goingOn, walks, ends, commandLine, commandStep};
+ghost use Rattle.stepping.specs.Parts.{Did, called};
+use crate::input::next_line;
+use crate::put::MALFORMED;
+use crate::put::over;
+use crate::put::put_portions;
+use crate::put::stopped;
+use listing::Held;
+use listing::Stage;
+use listing::Stepped;
+use rules::Answer;
+use rules::Outcome;
+use rules::State;
+use rules::Table;
+use script::Line;
+
+pub(crate) fn going_on(at: usize, table: Table, state: State, left: u64) -> Held
+    ensures { λ r. ⌜ r ≡ goingOn at table state left ⌝ }
+{
+    Held {
+        at,
+        stage: Stage::Commands,
+        table,
+        state,
+        left,
+    }
+}
+
+// What an arrival or a completion gave; a refused one gave the state back as it was.
+fn called(outcome: Outcome, end: usize, h: Held, buffer: &mut [u8], filled: usize) -> Stepped
+    requires { ⌜ filled + stepRoom ≤ length (now buffer) ⌝ }
+    ensures { λ r. ⌜ Did (called outcome end h) (now (buffer .entry)) filled (now (buffer .exit)) r ⌝ }
+{
+    let held = going_on(end, h.table, outcome.state, 0);
+    let answer = outcome.answer;
+    let Answer::Went = answer else {
+        let number = numbers::number_of(answer);
+        let behind = lines::put_refusal(number as u64, buffer, filled);
+        return Stepped {
+            held,
+            filled: behind,
+        };
+    };
+    Stepped { held, filled }
+}
+
+// The soundness of the state is tested once for all the portions of a walk.
+fn walked(k: u64, end: usize, h: Held, buffer: &mut [u8], filled: usize) -> Stepped
+    requires { ⌜ filled + stepRoom ≤ length (now buffer) ⌝ }
+    ensures { λ r. ⌜ Did (walks k end h) (now (buffer .entry)) filled (now (buffer .exit)) r ⌝ }
+{
+    let s = h.state;
+    let walk = engine::walk(s, k);
+    let held = going_on(end, h.table, walk.state, walk.left);
+    let answer = walk.answer;
+    let Answer::Went = answer else {
+        let number = numbers::number_of(answer);
+        let filled = lines::put_refusal(number as u64, buffer, filled);
+        return Stepped { held, filled };
+    };
+    let portions = walk.portions;
+    let filled = put_portions(portions, walk.count, buffer, filled);
+    Stepped { held, filled }
+}
+
+fn command_line(line: Line, end: usize, h: Held, buffer: &mut [u8], filled: usize) -> Stepped
+    requires { ⌜ filled + stepRoom ≤ length (now buffer) ⌝ }
+    ensures { λ r. ⌜ Did (commandLine line end h) (now (buffer .entry)) filled (now (buffer .exit)) r ⌝ }
+{
+    let s = h.state;
+    match line {
+        Line::Arrive(i) => {
+            let outcome = engine::arrive(s, i as usize);
+            called(outcome, end, h, buffer, filled)
+        }
+        Line::Done(i) => {
+            let outcome = engine::done(s, i as usize);
+            called(outcome, end, h, buffer, filled)
+        }
+        Line::Advance(k) => walked(k, end, h, buffer, filled),
+        _ => stopped(MALFORMED, h, buffer, filled),
+    }
+}
+
+fn ended(h: Held, buffer: &mut [u8], filled: usize) -> Stepped
+    requires { ⌜ filled + stepRoom ≤ length (now buffer) ⌝ }
+    ensures { λ r. ⌜ Did (ends h) (now (buffer .entry)) filled (now (buffer .exit)) r ⌝ }
+{
+    let held = over(h);
+    let s = h.state;
+    let filled = lines::put_end(s.now, buffer, filled);
+    Stepped { held, filled }
+}
+
+pub(crate) fn command_step(input: &[u8], h: Held, buffer: &mut [u8], filled: usize) -> Stepped
+    requires { ⌜ filled + stepRoom ≤ length (now buffer) ⌝ }
+    ensures { λ r. ⌜ Did (commandStep (now (input .entry)) h) (now (buffer .entry)) filled (now (buffer .exit)) r ⌝ }
+{
+    if 0 < h.left {
+        return walked(h.left, h.at, h, buffer, filled);
+    }
+    if input.len() <= h.at {
+        return ended(h, buffer, filled);
+    }
+    let next = next_line(input, h.at);
+    let line = next.line;
+    command_line(line, next.end, h, buffer, filled)
+}

@@ -1,0 +1,59 @@
+// What a step puts out: the number that stops the program, and the portions of a walk.
+ghost use mathlib.Core.Path.{_≡_};
+ghost use Prim.Native.Nat.{_+_, _≤_};
+ghost use lib.ListN.{length, take};
+ghost use Rattle.rules.specs.Limits.{portionPlaces};
+ghost use Rattle.listing.specs.Stepping.{stepRoom, over, stops};
+ghost use Rattle.stepping.specs.Parts.{Did, PortionsPut};
+use listing::Held;
+use listing::Stage;
+use listing::Stepped;
+use rules::PORTION_PLACES;
+use rules::Portion;
+
+// "a line of program input is malformed", or out of order, or there is too much input.
+pub(crate) const MALFORMED: u64 = 16;
+
+// Nothing comes any more.
+pub(crate) fn over(h: Held) -> Held
+    ensures { λ r. ⌜ r ≡ over h ⌝ }
+{
+    let table = h.table;
+    let state = h.state;
+    Held {
+        at: h.at,
+        stage: Stage::Over,
+        table,
+        state,
+        left: h.left,
+    }
+}
+
+// A number that stops the program.
+pub(crate) fn stopped(number: u64, h: Held, buffer: &mut [u8], filled: usize) -> Stepped
+    requires { ⌜ filled + stepRoom ≤ length (now buffer) ⌝ }
+    ensures { λ r. ⌜ Did (stops number h) (now (buffer .entry)) filled (now (buffer .exit)) r ⌝ }
+{
+    let held = over(h);
+    let filled = lines::put_refusal(number, buffer, filled);
+    Stepped { held, filled }
+}
+
+pub(crate) fn put_portions(
+    portions: [Portion; PORTION_PLACES],
+    count: usize,
+    buffer: &mut [u8],
+    filled: usize,
+) -> usize
+    requires { ⌜ (count ≤ portionPlaces) × (filled + stepRoom ≤ length (now buffer)) ⌝ }
+    ensures { λ r. ⌜ PortionsPut (take count portions) (now (buffer .entry)) filled (now (buffer .exit)) r ⌝ }
+{
+    let mut end = filled;
+    let mut i: usize = 0;
+    while i < count {
+        let p = portions[i];
+        end = lines::put_portion(p, buffer, end);
+        i = i + 1;
+    }
+    end
+}
