@@ -1,5 +1,3 @@
--- Laws of the image's code, and the steps of the walks over a reader.
-pub mod Laws
+-- Laws of what an image reads as and of what is stored in it.
 pub mod Reading
 pub mod Storing
-pub mod Walks

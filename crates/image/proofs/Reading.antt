@@ -27,11 +27,11 @@ use Rattle.rules.proofs.Refusing.{given-here, given-later}
 use Rattle.rules.proofs.GoodTable.{not-outside}
 use Rattle.rules.proofs.Images.{entries-in-long, readable}
 use Rattle.rules.proofs.Outcomes.{one-outcome, refusal-counts, kept-back}
-use Rattle.image.specs.declared.reader.Trailer.{Trailer}
-use Rattle.image.specs.Numbers.{numberAt, TrailerRead}
+use Rattle.reader.specs.declared.Trailer.{Trailer}
+use Rattle.reader.specs.Numbers.{numberAt, TrailerRead}
 use Rattle.image.specs.Handing.{EntriesPart}
 use Rattle.image.specs.Loading.{Whole, Tested}
-use Rattle.image.proofs.Laws.{number-in}
+use Rattle.reader.proofs.Laws.{number-in}
 
 -- two numbers side by side are an entry
 pub entry-whole : (part : List ℕ) (at Q T : ℕ) → at + 8 ≤ length part → Q ≡ numberAt 4 at part → T ≡ numberAt 4 (at + 4) part → record { budget = Q; period = T } ≡ entryIn (drop at part)

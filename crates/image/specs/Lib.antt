@@ -1,4 +1,3 @@
--- What the readers of an image answer.
-pub mod Numbers
+-- What the steps of a reading owe one another, and where the entries lie that are handed on.
 pub mod Loading
 pub mod Handing

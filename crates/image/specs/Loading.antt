@@ -10,7 +10,7 @@ use Rattle.rules.specs.Refusals.{first, numberOf}
 use Rattle.rules.specs.Table.{tableRows, noTable}
 use Rattle.rules.specs.Image.{frameIn, offsetIn, countIn}
 use Rattle.rules.specs.Calls.{kept}
-use Rattle.image.specs.declared.reader.Trailer.{Trailer}
+use Rattle.reader.specs.declared.Trailer.{Trailer}
 
 -- a trailer's numbers, where the entries end where it begins
 pub record Whole (image : List ℕ) (t : Trailer) : Type 0 where

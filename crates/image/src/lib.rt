@@ -9,11 +9,11 @@ ghost use Rattle.rules.specs.Image.{entryIn, entriesIn, tableIn};
 ghost use Rattle.rules.specs.Calls.{TableRead, TableWritten};
 ghost use Rattle.image.specs.Handing.{EntriesPart};
 ghost use Rattle.image.specs.Loading.{Whole, Tested};
-use crate::bytes::word_at;
-use crate::reader::Trailer;
-use crate::reader::read_trailer;
 use crate::store::store_entries;
 use crate::store::store_trailer;
+use reader::Trailer;
+use reader::read_trailer;
+use reader::word_at;
 use rules::Answer;
 use rules::Entry;
 use rules::GUEST_PLACES;
@@ -23,8 +23,6 @@ use rules::Refusal;
 use rules::SHORTEST_IMAGE;
 use rules::Table;
 
-mod bytes;
-mod reader;
 mod store;
 
 fn entry_at(part: &[u8], at: usize) -> Entry

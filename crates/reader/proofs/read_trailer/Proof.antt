@@ -1,4 +1,4 @@
--- `image::reader::read_trailer` meets its contract: a walk of its MIR, by hand. A reader is opened at the trailer's place; a number is read, and the reader moved on behind it, until all four are read. All that the proof knows of the functions called is that they meet their contracts.
+-- `reader::read_trailer` meets its contract: a walk of its MIR, by hand. A reader is opened at the trailer's place; a number is read, and the reader moved on behind it, until all four are read. All that the proof knows of the functions called is that they meet their contracts.
 -- What image owns is kept for the exit. A reader is Copy: what it owns is had twice, once for the number that is read there and once for the reader behind it.
 -- Assumes nothing.
 use mathlib.Core.Path.{_≡_, ap, ap₂, refl, sym, _∙_}
@@ -41,37 +41,37 @@ use denote.Triple.Walked.{says, Stays, stay-none-slice, walkOf, goes-none-slice,
 use denote.Exit.{yes}
 use denote.Triple.Clauses.{lasts}
 use Rattle.rules.specs.Image.{trailerAt}
-use Rattle.image.specs.Numbers.{numberAt, behindOf, TrailerRead}
-use Rattle.image.specs.declared.reader.Reader.{Reader}
-use Rattle.image.specs.declared.reader.Trailer.{Trailer}
-use Rattle.image.proofs.Walks.{B, token, held, enters, passes, passes-copy, passes-number, hears}
-use Rattle.image.proofs.Laws.{behind-in}
-use Rattle.image.proofs.reader.Trailer as R
-use Rattle.image.proofs.reader.Trailer.Laws as R′
-use Rattle.image.proofs.reader.trailer_place as place
-use Rattle.image.proofs.reader.trailer_place.Symbol as place-def
-use Rattle.image.proofs.reader.trailer_place.Symbol.{name as #reader·place}
-use Rattle.image.proofs.reader.trailer_place.Met as place-thm
-use Rattle.image.proofs.reader.open as opened
-use Rattle.image.proofs.reader.open.Symbol as opened-def
-use Rattle.image.proofs.reader.open.Symbol.{name as #reader·opened}
-use Rattle.image.proofs.reader.open.Met as opened-thm
-use Rattle.image.proofs.reader.word as word
-use Rattle.image.proofs.reader.word.Symbol as word-def
-use Rattle.image.proofs.reader.word.Symbol.{name as #reader·word}
-use Rattle.image.proofs.reader.word.Met as word-thm
-use Rattle.image.proofs.reader.half as half
-use Rattle.image.proofs.reader.half.Symbol as half-def
-use Rattle.image.proofs.reader.half.Symbol.{name as #reader·half}
-use Rattle.image.proofs.reader.half.Met as half-thm
-use Rattle.image.proofs.reader.past as past
-use Rattle.image.proofs.reader.past.Symbol as past-def
-use Rattle.image.proofs.reader.past.Symbol.{name as #reader·past}
-use Rattle.image.proofs.reader.past.Met as past-thm
-use Rattle.image.proofs.reader.read_trailer.Key.{name as #reader·read-trailer}
-use Rattle.image.proofs.reader.read_trailer as reads
-use Rattle.image.proofs.reader.read_trailer.Statement as stated
-use Rattle.image.proofs.reader.read_trailer.Code as code
+use Rattle.reader.specs.Numbers.{numberAt, behindOf, TrailerRead}
+use Rattle.reader.specs.declared.reader.Reader.{Reader}
+use Rattle.reader.specs.declared.Trailer.{Trailer}
+use Rattle.reader.proofs.Walks.{B, token, held, enters, passes, passes-copy, passes-number, hears}
+use Rattle.reader.proofs.Laws.{behind-in}
+use Rattle.reader.proofs.Trailer as R
+use Rattle.reader.proofs.Trailer.Laws as R′
+use Rattle.reader.proofs.reader.trailer_place as place
+use Rattle.reader.proofs.reader.trailer_place.Symbol as place-def
+use Rattle.reader.proofs.reader.trailer_place.Symbol.{name as #reader·place}
+use Rattle.reader.proofs.reader.trailer_place.Met as place-thm
+use Rattle.reader.proofs.reader.open as opened
+use Rattle.reader.proofs.reader.open.Symbol as opened-def
+use Rattle.reader.proofs.reader.open.Symbol.{name as #reader·opened}
+use Rattle.reader.proofs.reader.open.Met as opened-thm
+use Rattle.reader.proofs.reader.word as word
+use Rattle.reader.proofs.reader.word.Symbol as word-def
+use Rattle.reader.proofs.reader.word.Symbol.{name as #reader·word}
+use Rattle.reader.proofs.reader.word.Met as word-thm
+use Rattle.reader.proofs.reader.half as half
+use Rattle.reader.proofs.reader.half.Symbol as half-def
+use Rattle.reader.proofs.reader.half.Symbol.{name as #reader·half}
+use Rattle.reader.proofs.reader.half.Met as half-thm
+use Rattle.reader.proofs.reader.past as past
+use Rattle.reader.proofs.reader.past.Symbol as past-def
+use Rattle.reader.proofs.reader.past.Symbol.{name as #reader·past}
+use Rattle.reader.proofs.reader.past.Met as past-thm
+use Rattle.reader.proofs.read_trailer.Key.{name as #reader·read-trailer}
+use Rattle.reader.proofs.read_trailer as reads
+use Rattle.reader.proofs.read_trailer.Statement as stated
+use Rattle.reader.proofs.read_trailer.Code as code
 
 abbrev stayed : Stays (reads.ended .signature .params) (reads.ended .kept)
 stayed = (stay-none-slice (0 ∷ []) tt (plain (λ _. u8)) yes, tt)
@@ -246,8 +246,8 @@ read-trailer-spec 𝓤 H 𝓜 𝓖 𝓡 =
     entered 𝓤 H (tripleOf 𝓤 H (𝓖 .A) reads.signature (reads.spec 𝓤 H (𝓖 .A) (𝓜 .mem) (𝓡 .run)))
     (tables 𝓤 H 𝓜 𝓡 code.env .C) (tables 𝓤 H 𝓜 𝓡 code.env .Λ) #reader·read-trailer code.function (code.unfolded 𝓤 H 𝓜 𝓡)
     (read-meets 𝓤 H (𝓖 .A) (givenOf 𝓤 H 𝓜 𝓖) (𝓜 .mem) (𝓡 .run) (tablesOf 𝓤 H 𝓜 (tables 𝓤 H 𝓜 𝓡 code.env))
-    (cited 𝓤 H (Place 𝓤 H (𝓖 .A) (𝓜 .mem) (𝓡 .run)) 𝓜 𝓡 code.env #reader·place place-def.routine code.calls-image·reader·trailer-place (place-thm.met 𝓤 H 𝓜 𝓖 𝓡))
-    (cited 𝓤 H (Opened 𝓤 H (𝓖 .A) (𝓜 .mem) (𝓡 .run)) 𝓜 𝓡 code.env #reader·opened opened-def.routine code.calls-image·reader·open (opened-thm.met 𝓤 H 𝓜 𝓖 𝓡))
-    (cited 𝓤 H (Word 𝓤 H (𝓖 .A) (𝓜 .mem) (𝓡 .run)) 𝓜 𝓡 code.env #reader·word word-def.routine code.calls-image·reader·word (word-thm.met 𝓤 H 𝓜 𝓖 𝓡))
-    (cited 𝓤 H (Half 𝓤 H (𝓖 .A) (𝓜 .mem) (𝓡 .run)) 𝓜 𝓡 code.env #reader·half half-def.routine code.calls-image·reader·half (half-thm.met 𝓤 H 𝓜 𝓖 𝓡))
-    (cited 𝓤 H (Past 𝓤 H (𝓖 .A) (𝓜 .mem) (𝓡 .run)) 𝓜 𝓡 code.env #reader·past past-def.routine code.calls-image·reader·past (past-thm.met 𝓤 H 𝓜 𝓖 𝓡)))
+    (cited 𝓤 H (Place 𝓤 H (𝓖 .A) (𝓜 .mem) (𝓡 .run)) 𝓜 𝓡 code.env #reader·place place-def.routine code.calls-reader·reader·trailer-place (place-thm.met 𝓤 H 𝓜 𝓖 𝓡))
+    (cited 𝓤 H (Opened 𝓤 H (𝓖 .A) (𝓜 .mem) (𝓡 .run)) 𝓜 𝓡 code.env #reader·opened opened-def.routine code.calls-reader·reader·open (opened-thm.met 𝓤 H 𝓜 𝓖 𝓡))
+    (cited 𝓤 H (Word 𝓤 H (𝓖 .A) (𝓜 .mem) (𝓡 .run)) 𝓜 𝓡 code.env #reader·word word-def.routine code.calls-reader·reader·word (word-thm.met 𝓤 H 𝓜 𝓖 𝓡))
+    (cited 𝓤 H (Half 𝓤 H (𝓖 .A) (𝓜 .mem) (𝓡 .run)) 𝓜 𝓡 code.env #reader·half half-def.routine code.calls-reader·reader·half (half-thm.met 𝓤 H 𝓜 𝓖 𝓡))
+    (cited 𝓤 H (Past 𝓤 H (𝓖 .A) (𝓜 .mem) (𝓡 .run)) 𝓜 𝓡 code.env #reader·past past-def.routine code.calls-reader·reader·past (past-thm.met 𝓤 H 𝓜 𝓖 𝓡)))

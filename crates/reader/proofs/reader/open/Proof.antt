@@ -1,4 +1,4 @@
--- `image::reader::open` meets its contract: a walk of its MIR, by hand. A `Reader` is made of the slice and the number passed, in the result's local.
+-- `reader::reader::open` meets its contract: a walk of its MIR, by hand. A `Reader` is made of the slice and the number passed, in the result's local.
 -- A `&[u8]` is Copy, so what it owns is had twice: once for image at exit, and once inside the result, beside the facts of at.
 -- Assumes nothing.
 use mathlib.Core.Path.{refl}
@@ -34,13 +34,13 @@ use denote.Triple.Spec.{Meets, tripleOf}
 use denote.Triple.Table.{entered}
 use denote.Triple.Walked.{says, Stays, stay-none, stay-none-slice, walkOf, goes-none, goes-none-slice, Walks, ends-at, walked, walk-meets}
 use denote.Exit.{yes}
-use Rattle.image.specs.declared.reader.Reader.{Reader}
-use Rattle.image.proofs.reader.Reader as T
-use Rattle.image.proofs.reader.Reader.Laws as T′
-use Rattle.image.proofs.reader.open.Key.{name as #reader·open}
-use Rattle.image.proofs.reader.open as opened
-use Rattle.image.proofs.reader.open.Statement as stated
-use Rattle.image.proofs.reader.open.Code as code
+use Rattle.reader.specs.declared.reader.Reader.{Reader}
+use Rattle.reader.proofs.reader.Reader as T
+use Rattle.reader.proofs.reader.Reader.Laws as T′
+use Rattle.reader.proofs.reader.open.Key.{name as #reader·open}
+use Rattle.reader.proofs.reader.open as opened
+use Rattle.reader.proofs.reader.open.Statement as stated
+use Rattle.reader.proofs.reader.open.Code as code
 
 abbrev stayed : Stays (opened.ended .signature .params) (opened.ended .kept)
 stayed = (stay-none-slice (0 ∷ []) tt (plain (λ _. u8)) yes, (stay-none (λ _. usize) yes, tt))

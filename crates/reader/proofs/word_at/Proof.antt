@@ -1,9 +1,9 @@
--- `image::bytes::word_at` meets its contract. Where all four bytes stand there the two numbers of 2 bytes make it (`word-whole`); in the two other cases it reads as 0 (`number-out`). Assumes nothing.
+-- `reader::word_at` meets its contract. Where all four bytes stand there the two numbers of 2 bytes make it (`word-whole`); in the two other cases it reads as 0 (`number-out`). Assumes nothing.
 use native.Mathlib.Omega.{arith}
 use borrow.Author.Needs.{needs}
-use Rattle.image.proofs.Laws.{number-out, word-whole}
-use Rattle.image.proofs.bytes.word_at.Statement.{statement}
-use Rattle.image.proofs.bytes.word_at.Tie as tie
+use Rattle.reader.proofs.Laws.{number-out, word-whole}
+use Rattle.reader.proofs.word_at.Statement.{statement}
+use Rattle.reader.proofs.word_at.Tie as tie
 
 returns : tie.Need-returns
 returns c = (number-out _ 4 _ (omega arith), omega arith)

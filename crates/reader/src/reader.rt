@@ -2,9 +2,9 @@
 ghost use mathlib.Core.Path.{_≡_};
 ghost use Prim.Native.Nat.{_+_, _<_, _^_};
 ghost use Rattle.rules.specs.Image.{trailerAt};
-ghost use Rattle.image.specs.Numbers.{numberAt, behindOf, TrailerRead};
+ghost use Rattle.reader.specs.Numbers.{numberAt, behindOf};
 use crate::bytes::half_at;
-use crate::bytes::word_at;
+use crate::word_at;
 
 // What the trailer takes of the image's end.
 const TRAILER_BYTES: usize = 12;
@@ -18,16 +18,8 @@ pub struct Reader<'a> {
     pub at: usize,
 }
 
-// The numbers of an image's trailer.
-pub struct Trailer {
-    pub frame: usize,
-    pub offset: usize,
-    pub count: usize,
-    pub edition: usize,
-}
-
 // The trailer's place, or the front of an image that is too short for one. Its bound leaves room to move on.
-fn trailer_place(image: &[u8]) -> usize
+pub(crate) fn trailer_place(image: &[u8]) -> usize
     ensures { λ r. ⌜ (r ≡ trailerAt (now (image .entry))) × (r + 12 < 2 ^ 64) ⌝ }
 {
     if image.len() < TRAILER_BYTES {
@@ -75,25 +67,5 @@ pub(crate) fn past<'a>(reader: Reader<'a>, width: usize) -> Reader<'a>
     Reader {
         image: reader.image,
         at,
-    }
-}
-
-// The trailer's numbers, read one behind the other: the plain function that serves every caller.
-pub(crate) fn read_trailer(image: &[u8]) -> Trailer
-    ensures { λ r. ⌜ TrailerRead (now (image .entry)) r ⌝ }
-{
-    let first = open(image, trailer_place(image));
-    let frame = word(first);
-    let second = past(first, 4);
-    let offset = word(second);
-    let third = past(second, 4);
-    let count = half(third);
-    let fourth = past(third, 2);
-    let edition = half(fourth);
-    Trailer {
-        frame,
-        offset,
-        count,
-        edition,
     }
 }

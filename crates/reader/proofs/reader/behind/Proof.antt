@@ -1,8 +1,8 @@
--- `image::reader::behind` meets its contract. Assumes nothing.
+-- `reader::reader::behind` meets its contract. Assumes nothing.
 use native.Mathlib.Omega.{arith}
-use Rattle.image.proofs.Laws.{behind-in, behind-out}
-use Rattle.image.proofs.reader.behind.Statement.{statement}
-use Rattle.image.proofs.reader.behind.Tie as tie
+use Rattle.reader.proofs.Laws.{behind-in, behind-out}
+use Rattle.reader.proofs.reader.behind.Statement.{statement}
+use Rattle.reader.proofs.reader.behind.Tie as tie
 
 sub-if1 : tie.Need-sub-if1
 sub-if1 c = omega arith

@@ -1,7 +1,7 @@
 // Little-endian numbers of a slice of bytes.
 ghost use mathlib.Core.Path.{_≡_};
 ghost use Prim.Native.Nat.{_<_, _^_};
-ghost use Rattle.image.specs.Numbers.{numberAt};
+ghost use Rattle.reader.specs.Numbers.{numberAt};
 
 // A byte as a number: the bound stands in the contract, so that no caller proves a cast.
 fn wide(byte: u8) -> usize
@@ -23,19 +23,4 @@ pub(crate) fn half_at(bytes: &[u8], at: usize) -> usize
     let low = wide(bytes[at]);
     let high = wide(bytes[at + 1]);
     low + 256 * high
-}
-
-// The number in 4 bytes at a place, or 0 where they run past the end.
-pub(crate) fn word_at(bytes: &[u8], at: usize) -> usize
-    ensures { λ r. ⌜ (r ≡ numberAt 4 at (now (bytes .entry))) × (r < 2 ^ 32) ⌝ }
-{
-    if bytes.len() < 4 {
-        return 0;
-    }
-    if bytes.len() - 4 < at {
-        return 0;
-    }
-    let low = half_at(bytes, at);
-    let high = half_at(bytes, at + 2);
-    low + 65536 * high
 }

@@ -1,7 +1,7 @@
--- `image::reader::trailer_place` meets its contract. Assumes nothing.
+-- `reader::reader::trailer_place` meets its contract. Assumes nothing.
 use native.Mathlib.Omega.{arith}
-use Rattle.image.proofs.reader.trailer_place.Statement.{statement}
-use Rattle.image.proofs.reader.trailer_place.Tie as tie
+use Rattle.reader.proofs.reader.trailer_place.Statement.{statement}
+use Rattle.reader.proofs.reader.trailer_place.Tie as tie
 
 returns : tie.Need-returns
 returns c = (omega arith, omega arith)

@@ -1,4 +1,4 @@
--- `image::reader::past` meets its contract: a walk of its MIR, by hand. `behind` is called on the place and the width, and a struct is made anew of the slice that the one passed holds, and what it returns.
+-- `reader::reader::past` meets its contract: a walk of its MIR, by hand. `behind` is called on the place and the width, and a struct is made anew of the slice that the one passed holds, and what it returns.
 -- The struct is Copy: what it owns is had twice, one copy is kept whole for the exit, and the other, with the facts of the new place for at's, is what the result owns.
 -- Assumes nothing.
 use mathlib.Core.Path.{_≡_, refl, ap}
@@ -37,19 +37,19 @@ use denote.Triple.Table.{entered, cited}
 use denote.Triple.Walked.{says, Stays, stay-none, walkOf, goes-none, Walks, ends-at, walked, walk-meets}
 use denote.Exit.{yes}
 use denote.Triple.Clauses.{lasts}
-use Rattle.image.specs.Numbers.{behindOf}
-use Rattle.image.specs.declared.reader.Reader.{Reader}
-use Rattle.image.proofs.Walks.{B, Has, token, twice, enters, hears}
-use Rattle.image.proofs.reader.Reader as T
-use Rattle.image.proofs.reader.Reader.Laws as T′
-use Rattle.image.proofs.reader.behind as callee
-use Rattle.image.proofs.reader.behind.Symbol as callee-def
-use Rattle.image.proofs.reader.behind.Symbol.{name as #reader·behind}
-use Rattle.image.proofs.reader.behind.Met as callee-thm
-use Rattle.image.proofs.reader.past.Key.{name as #reader·past}
-use Rattle.image.proofs.reader.past as past
-use Rattle.image.proofs.reader.past.Statement as stated
-use Rattle.image.proofs.reader.past.Code as code
+use Rattle.reader.specs.Numbers.{behindOf}
+use Rattle.reader.specs.declared.reader.Reader.{Reader}
+use Rattle.reader.proofs.Walks.{B, Has, token, twice, enters, hears}
+use Rattle.reader.proofs.reader.Reader as T
+use Rattle.reader.proofs.reader.Reader.Laws as T′
+use Rattle.reader.proofs.reader.behind as callee
+use Rattle.reader.proofs.reader.behind.Symbol as callee-def
+use Rattle.reader.proofs.reader.behind.Symbol.{name as #reader·behind}
+use Rattle.reader.proofs.reader.behind.Met as callee-thm
+use Rattle.reader.proofs.reader.past.Key.{name as #reader·past}
+use Rattle.reader.proofs.reader.past as past
+use Rattle.reader.proofs.reader.past.Statement as stated
+use Rattle.reader.proofs.reader.past.Code as code
 
 abbrev stayed : Stays (past.ended .signature .params) (past.ended .kept)
 stayed = (stay-none B yes, (stay-none (λ _. usize) yes, tt))
@@ -127,4 +127,4 @@ past-spec 𝓤 H 𝓜 𝓖 𝓡 =
     entered 𝓤 H (tripleOf 𝓤 H (𝓖 .A) past.signature (past.spec 𝓤 H (𝓖 .A) (𝓜 .mem) (𝓡 .run)))
     (tables 𝓤 H 𝓜 𝓡 code.env .C) (tables 𝓤 H 𝓜 𝓡 code.env .Λ) #reader·past code.function (code.unfolded 𝓤 H 𝓜 𝓡)
     (past-meets 𝓤 H (𝓖 .A) (givenOf 𝓤 H 𝓜 𝓖) (𝓜 .mem) (𝓡 .run) (tablesOf 𝓤 H 𝓜 (tables 𝓤 H 𝓜 𝓡 code.env))
-    (cited 𝓤 H (Callee 𝓤 H (𝓖 .A) (𝓜 .mem) (𝓡 .run)) 𝓜 𝓡 code.env #reader·behind callee-def.routine code.calls-image·reader·behind (callee-thm.met 𝓤 H 𝓜 𝓖 𝓡)))
+    (cited 𝓤 H (Callee 𝓤 H (𝓖 .A) (𝓜 .mem) (𝓡 .run)) 𝓜 𝓡 code.env #reader·behind callee-def.routine code.calls-reader·reader·behind (callee-thm.met 𝓤 H 𝓜 𝓖 𝓡)))

@@ -1,9 +1,9 @@
--- `image::bytes::half_at` meets its contract. Where both bytes stand there they make the number (`half-whole`); in the two other cases it reads as 0 (`number-out`). Assumes nothing.
+-- `reader::bytes::half_at` meets its contract. Where both bytes stand there they make the number (`half-whole`); in the two other cases it reads as 0 (`number-out`). Assumes nothing.
 use native.Mathlib.Omega.{arith}
 use borrow.Author.Needs.{needs}
-use Rattle.image.proofs.Laws.{number-out, half-whole}
-use Rattle.image.proofs.bytes.half_at.Statement.{statement}
-use Rattle.image.proofs.bytes.half_at.Tie as tie
+use Rattle.reader.proofs.Laws.{number-out, half-whole}
+use Rattle.reader.proofs.bytes.half_at.Statement.{statement}
+use Rattle.reader.proofs.bytes.half_at.Tie as tie
 
 returns : tie.Need-returns
 returns c = (number-out _ 2 _ (omega arith), omega arith)

@@ -26,9 +26,9 @@ use denote.Struct.Declared.{Declared}
 use denote.Struct.Laws as LL
 use denote.Struct.Rest.{all-own, ownAt, rest, own-open, own-out}
 use denote.Struct.Values.{Values}
-use Rattle.image.specs.declared.reader.Reader.{Reader}
-use Rattle.image.proofs.reader.Reader as T
-use Rattle.image.proofs.reader.Reader.Laws as T′
+use Rattle.reader.specs.declared.reader.Reader.{Reader}
+use Rattle.reader.proofs.reader.Reader as T
+use Rattle.reader.proofs.reader.Reader.Laws as T′
 
 module _ {M : Type 1} (𝓤 : URA M) (H : Heap 𝓤) (A : Atoms 𝓤) (token : Item 𝓤) (Res : RattleType) (Said : Res .Denot → Type 0) {X : Type 0} (Last : X → Fml) where
   -- what a call leaves: in a step a result, with the token, what is said of last values (of none here), and the fact that the callee's `ensures` states

@@ -1,4 +1,4 @@
--- `image::reader::half` meets its contract: a walk of its MIR, by hand. The struct is taken apart, and `half_at` is called on the slice and the number. All that the proof knows of `half_at` is that it meets its contract.
+-- `reader::reader::half` meets its contract: a walk of its MIR, by hand. The struct is taken apart, and `half_at` is called on the slice and the number. All that the proof knows of `half_at` is that it meets its contract.
 -- The struct is Copy: what it owns is had twice, one copy is kept whole for the exit, and of the other what image owns goes to the callee, beside the lifetime's token, which comes back.
 -- Assumes nothing.
 use mathlib.Core.Path.{_≡_, refl}
@@ -34,19 +34,19 @@ use denote.Triple.Table.{entered, cited}
 use denote.Triple.Walked.{says, Stays, stay-none, walkOf, goes-none, Walks, ends-at, walked, walk-meets}
 use denote.Exit.{yes}
 use denote.Triple.Clauses.{lasts}
-use Rattle.image.specs.Numbers.{numberAt}
-use Rattle.image.specs.declared.reader.Reader.{Reader}
-use Rattle.image.proofs.Walks.{B, Has, fields, token, lends, hears}
-use Rattle.image.proofs.reader.Reader as T
-use Rattle.image.proofs.reader.Reader.Laws as T′
-use Rattle.image.proofs.bytes.half_at as callee
-use Rattle.image.proofs.bytes.half_at.Symbol as callee-def
-use Rattle.image.proofs.bytes.half_at.Symbol.{name as #bytes·half-at}
-use Rattle.image.proofs.bytes.half_at.Met as callee-thm
-use Rattle.image.proofs.reader.half.Key.{name as #reader·half}
-use Rattle.image.proofs.reader.half as half
-use Rattle.image.proofs.reader.half.Statement as stated
-use Rattle.image.proofs.reader.half.Code as code
+use Rattle.reader.specs.Numbers.{numberAt}
+use Rattle.reader.specs.declared.reader.Reader.{Reader}
+use Rattle.reader.proofs.Walks.{B, Has, fields, token, lends, hears}
+use Rattle.reader.proofs.reader.Reader as T
+use Rattle.reader.proofs.reader.Reader.Laws as T′
+use Rattle.reader.proofs.bytes.half_at as callee
+use Rattle.reader.proofs.bytes.half_at.Symbol as callee-def
+use Rattle.reader.proofs.bytes.half_at.Symbol.{name as #bytes·half-at}
+use Rattle.reader.proofs.bytes.half_at.Met as callee-thm
+use Rattle.reader.proofs.reader.half.Key.{name as #reader·half}
+use Rattle.reader.proofs.reader.half as half
+use Rattle.reader.proofs.reader.half.Statement as stated
+use Rattle.reader.proofs.reader.half.Code as code
 
 abbrev stayed : Stays (half.ended .signature .params) (half.ended .kept)
 stayed = (stay-none B yes, tt)
@@ -111,4 +111,4 @@ half-spec 𝓤 H 𝓜 𝓖 𝓡 =
     entered 𝓤 H (tripleOf 𝓤 H (𝓖 .A) half.signature (half.spec 𝓤 H (𝓖 .A) (𝓜 .mem) (𝓡 .run)))
     (tables 𝓤 H 𝓜 𝓡 code.env .C) (tables 𝓤 H 𝓜 𝓡 code.env .Λ) #reader·half code.function (code.unfolded 𝓤 H 𝓜 𝓡)
     (half-meets 𝓤 H (𝓖 .A) (givenOf 𝓤 H 𝓜 𝓖) (𝓜 .mem) (𝓡 .run) (tablesOf 𝓤 H 𝓜 (tables 𝓤 H 𝓜 𝓡 code.env))
-    (cited 𝓤 H (Callee 𝓤 H (𝓖 .A) (𝓜 .mem) (𝓡 .run)) 𝓜 𝓡 code.env #bytes·half-at callee-def.routine code.calls-image·bytes·half-at (callee-thm.met 𝓤 H 𝓜 𝓖 𝓡)))
+    (cited 𝓤 H (Callee 𝓤 H (𝓖 .A) (𝓜 .mem) (𝓡 .run)) 𝓜 𝓡 code.env #bytes·half-at callee-def.routine code.calls-reader·bytes·half-at (callee-thm.met 𝓤 H 𝓜 𝓖 𝓡)))

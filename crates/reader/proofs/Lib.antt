@@ -1,0 +1,4 @@
+-- Laws of numbers in bytes, and the steps of the walks over a reader.
+pub mod Laws
+pub mod Told
+pub mod Walks

@@ -1,0 +1,2 @@
+-- What the readers of an image answer.
+pub mod Numbers
