@@ -9,15 +9,18 @@ test:
 	@tools/test
 
 valgrind:
+	@tools/x86 only 'make valgrind'
 	@rt staticlib boot
 	@tools/test_boot
 	@tools/valgrind_boot
 
 bench:
+	@tools/x86 only 'make bench'
 	@bench/run
 	@bench/program
 
 fuzz:
+	@tools/x86 only 'make fuzz'
 	@rt check schedule
 	@rt staticlib boot
 	@tools/fuzz

@@ -8,7 +8,8 @@ use std::path::Path;
 use crate::archive;
 use crate::faults::{Faults, SET_COUNT};
 use crate::random::Random;
-use crate::scripts::{child, files};
+use crate::scripts::child::{self, Words};
+use crate::scripts::files;
 use crate::{kinds, purpose, samples};
 
 /// Enough for any number of 32 bits, its line feed and something wrong behind it.
@@ -35,7 +36,7 @@ pub fn write_seeds(folder: &Path, seed: u64) -> io::Result<()> {
     Ok(())
 }
 
-pub fn run(plain: &Path, folders: &[&str]) -> Result<(), String> {
+pub fn run(plain: Words, folders: &[&str]) -> Result<(), String> {
     let (mut replayed, mut differences) = (0, 0);
     for folder in folders {
         for path in files::all_in(Path::new(folder))? {
@@ -58,7 +59,7 @@ pub fn run(plain: &Path, folders: &[&str]) -> Result<(), String> {
     Ok(())
 }
 
-fn replay(plain: &Path, bytes: Vec<u8>) -> Result<(), String> {
+fn replay(plain: Words, bytes: Vec<u8>) -> Result<(), String> {
     let image = bytes.clone().into_boxed_slice();
     let second = second::image::read(&image).refusal;
     let given = archive::check_image(&image);

@@ -1,9 +1,10 @@
 //! Compares libboot.a with the second implementation on images made from a seed. No argument: all images;
 //! `few`: some two thousand, for valgrind; `write DIR`: no comparison, the sample images are written to DIR;
-//! `scripts PROGRAM`: no images, the program's listings of scripts are compared instead. For inputs that a fuzzer has found:
+//! `scripts WORD...`: no images, the listings of scripts by the program that the words start are compared instead. For inputs that a fuzzer has found:
 //! `replay PROGRAM PLAIN FOLDER...` holds two programs to the second implementation on the folders' scripts, and
 //! `images PLAIN FOLDER...` the archive and a program on their images; `seeds DIR` writes images for it to start with.
 
+#[cfg_attr(not(target_arch = "x86_64"), path = "archive_apart.rs")]
 mod archive;
 mod draft;
 mod faults;
@@ -24,7 +25,7 @@ use faults::{Faults, SET_COUNT};
 use random::Random;
 use tally::Tally;
 
-const USAGE: &str = "usage: compare [few | write DIR | scripts PROGRAM \
+const USAGE: &str = "usage: compare [few | write DIR | scripts WORD... \
                      | replay PROGRAM PLAIN FOLDER... | images PLAIN FOLDER... | seeds DIR]";
 const DEFAULT_SEED: u64 = 212;
 /// The header promises that calls from several threads don't disturb one another, so two call at once.
@@ -39,11 +40,11 @@ fn main() -> ExitCode {
         [] => seed().and_then(|seed| run(seed, ALL_ROUNDS)),
         ["few"] => seed().and_then(|seed| run(seed, FEW_ROUNDS)),
         ["write", folder] => samples::write(Path::new(folder)).map_err(|error| error.to_string()),
-        ["scripts", program] => seed().and_then(|seed| scripts::run(Path::new(program), seed)),
+        ["scripts", _, ..] => seed().and_then(|seed| scripts::run(&words[1..], seed)),
         ["replay", program, plain, ref folders @ ..] => {
-            scripts::replay::run(Path::new(program), Path::new(plain), folders)
+            scripts::replay::run(&[program], &[plain], folders)
         }
-        ["images", plain, ref folders @ ..] => images::run(Path::new(plain), folders),
+        ["images", plain, ref folders @ ..] => images::run(&[plain], folders),
         ["seeds", folder] => seed().and_then(|seed| {
             images::write_seeds(Path::new(folder), seed).map_err(|error| error.to_string())
         }),

@@ -14,17 +14,17 @@ mod shapes;
 mod sizes;
 mod steps;
 
-use std::path::Path;
 use std::thread::{self, ScopedJoinHandle};
 
 use case::{Case, Known};
+use child::Words;
 use counts::Counts;
 
 const RANDOM_SCRIPTS: usize = 7_200;
 /// A child mostly waits for its start and its end, so two at a time keep two cores busy.
 const THREADS: usize = 2;
 
-pub fn run(program: &Path, seed: u64) -> Result<(), String> {
+pub fn run(program: Words, seed: u64) -> Result<(), String> {
     println!("seed {seed}, {THREADS} threads");
     let cases = fixed_cases()?;
     hold::unreadable_input(program)?;

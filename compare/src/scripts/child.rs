@@ -2,7 +2,6 @@
 
 use std::fs::File;
 use std::io::{Read, Write};
-use std::path::Path;
 use std::process::{Child, ChildStdin, ChildStdout, Command, ExitStatus, Stdio};
 use std::sync::mpsc::{channel, Receiver};
 use std::thread;
@@ -12,13 +11,16 @@ const TIME_LIMIT: Duration = Duration::from_secs(20);
 /// From the end of its output to its own end a program needs some microseconds.
 const BETWEEN_LOOKS: Duration = Duration::from_micros(100);
 
+/// What starts a program: its name, or an emulator's words and then its name. There is one at least.
+pub type Words<'a> = &'a [&'a str];
+
 pub struct Ending {
     pub output: Vec<u8>,
     pub status: ExitStatus,
 }
 
 /// Output behind the given number of bytes is not taken, so that a program that never stops printing fills no memory.
-pub fn run(program: &Path, script: &[u8], most_output: usize) -> Result<Ending, String> {
+pub fn run(program: Words, script: &[u8], most_output: usize) -> Result<Ending, String> {
     let mut child = start(program, Stdio::piped())?;
     if let Some(input) = child.stdin.take() {
         feed(input, script.to_vec());
@@ -27,17 +29,18 @@ pub fn run(program: &Path, script: &[u8], most_output: usize) -> Result<Ending, 
 }
 
 /// A folder can be opened, but reading from it fails.
-pub fn run_on_unreadable_input(program: &Path, most_output: usize) -> Result<Ending, String> {
+pub fn run_on_unreadable_input(program: Words, most_output: usize) -> Result<Ending, String> {
     let folder = File::open(".").map_err(|error| format!("no folder to read from: {error}"))?;
     finish(start(program, folder.into())?, most_output)
 }
 
-fn start(program: &Path, input: Stdio) -> Result<Child, String> {
-    Command::new(program)
+fn start(program: Words, input: Stdio) -> Result<Child, String> {
+    Command::new(program[0])
+        .args(&program[1..])
         .stdin(input)
         .stdout(Stdio::piped())
         .spawn()
-        .map_err(|error| format!("{} could not be started: {error}", program.display()))
+        .map_err(|error| format!("{} could not be started: {error}", program.join(" ")))
 }
 
 /// In a thread of its own: with both pipes full, the program and this one would wait for each other.

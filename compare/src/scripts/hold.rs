@@ -4,7 +4,7 @@ use std::fs;
 use std::path::Path;
 
 use super::case::Case;
-use super::child;
+use super::child::{self, Words};
 
 /// Where a script is kept that the two programs differ on.
 const FOLDER: &str = "target";
@@ -13,7 +13,7 @@ pub const MORE_OUTPUT: usize = 4_096;
 const MOST_SHOWN: usize = 200;
 
 /// The output that both give, or what is wrong.
-pub fn output(program: &Path, case: &Case) -> Result<Vec<u8>, String> {
+pub fn output(program: Words, case: &Case) -> Result<Vec<u8>, String> {
     let expected = second::program::listing(&case.script);
     match agree(program, case, &expected) {
         Ok(()) => Ok(expected),
@@ -26,14 +26,14 @@ pub fn output(program: &Path, case: &Case) -> Result<Vec<u8>, String> {
 }
 
 /// A read that fails counts as the end of the input, and no input is refusal 16.
-pub fn unreadable_input(program: &Path) -> Result<(), String> {
+pub fn unreadable_input(program: Words) -> Result<(), String> {
     let expected = b"! 16\n";
     child::run_on_unreadable_input(program, expected.len() + MORE_OUTPUT)
         .and_then(|ending| same(&ending, expected))
         .map_err(|reason| format!("input that cannot be read: {reason}"))
 }
 
-fn agree(program: &Path, case: &Case, expected: &[u8]) -> Result<(), String> {
+fn agree(program: Words, case: &Case, expected: &[u8]) -> Result<(), String> {
     let ending = child::run(program, &case.script, expected.len() + MORE_OUTPUT)?;
     same(&ending, expected)?;
     if !case.known.holds_for(expected) {

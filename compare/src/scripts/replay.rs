@@ -2,7 +2,8 @@
 
 use std::path::Path;
 
-use super::{child, files, hold};
+use super::child::{self, Words};
+use super::{files, hold};
 
 /// Twice what the plain program keeps before it writes, so about what the fuzzer lets a script print.
 const MOST_OUTPUT: usize = 131_072;
@@ -23,7 +24,7 @@ enum Outcome {
     ManyTicks,
 }
 
-pub fn run(program: &Path, plain: &Path, folders: &[&str]) -> Result<(), String> {
+pub fn run(program: Words, plain: Words, folders: &[&str]) -> Result<(), String> {
     let mut sums = Sums::default();
     for folder in folders {
         for path in files::all_in(Path::new(folder))? {
@@ -61,7 +62,7 @@ impl Sums {
 }
 
 /// The plain program goes first: what it prints tells whether the others can be asked.
-fn replay(program: &Path, plain: &Path, script: &[u8]) -> Result<Outcome, String> {
+fn replay(program: Words, plain: Words, script: &[u8]) -> Result<Outcome, String> {
     let by_plain = |reason| format!("the plain program fails: {reason}");
     let ending = child::run(plain, script, MOST_OUTPUT + 1).map_err(by_plain)?;
     if ending.output.len() > MOST_OUTPUT {
