@@ -18,7 +18,7 @@ use Rattle.listing.specs.declared.Stage.{Stage}
 use Rattle.listing.specs.declared.Stage.the-variants.{Frames, Guests, Commands, Over}
 use Rattle.listing.specs.declared.Held.{Held}
 use Rattle.listing.specs.Listing.{mostInput}
-use Rattle.listing.specs.Stepping.{lineAt, behind, Step, step, heldOf, stops, over, ends, frameLine, checks, guestLine, walks, commandLine, stepIn, stepOf, goesOn, stagesLeft, toGo, StepFalls}
+use Rattle.listing.specs.Stepping.{lineAt, behind, Step, heldOf, stops, over, ends, frameLine, checks, guestLine, walks, commandLine, stepIn, stepOf, goesOn, stagesLeft, toGo, StepFalls}
 use Rattle.listing.proofs.Inputs.{line-end, behind-low, behind-high}
 
 -- the first number is smaller, and the second no greater than the weight allows

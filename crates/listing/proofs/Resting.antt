@@ -25,7 +25,7 @@ use Rattle.listing.specs.declared.Stage.{Stage}
 use Rattle.listing.specs.declared.Stage.the-variants.{Frames, Guests, Commands, Over}
 use Rattle.listing.specs.declared.Held.{Held}
 use Rattle.listing.specs.Listing.{asked, refusalIn, portionsBytes, printed, commands, checkedBy, checked, guests, listed, mostInput}
-use Rattle.listing.specs.Stepping.{lineAt, behind, Step, step, putOf, heldOf, stops, ends, frameLine, checks, guestLine, calls, walks, commandLine, stepIn, stepOf}
+use Rattle.listing.specs.Stepping.{lineAt, behind, Step, putOf, heldOf, stops, ends, frameLine, checks, guestLine, calls, walks, commandLine, stepIn, stepOf}
 use Rattle.listing.proofs.Inputs.{asked-end, asked-cons, line-end}
 
 -- ---- portions

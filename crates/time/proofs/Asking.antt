@@ -18,7 +18,7 @@ use Rattle.rules.specs.Sound.{sound}
 use Rattle.rules.specs.Steps.{renew, renewed, Pick, earliest, Portion, nothing, portion, next, ask}
 use Rattle.rules.proofs.Facts.{points, guests-count}
 use Rattle.order.specs.Choice.{inUse}
-use Rattle.time.specs.Charges.{firstOf}
+use Rattle.portions.specs.Charges.{firstOf}
 use Rattle.time.specs.Clocks.{placed}
 use Rattle.time.proofs.Placing.{spares-long}
 use Rattle.time.proofs.Rows.{gives-1, past-1, told-nothing}

@@ -1,7 +1,6 @@
 -- Laws of time, portion by portion, and of states in places.
 pub mod Advancing
 pub mod Asking
-pub mod Charging
 pub mod Leaving
 pub mod Mirroring
 pub mod Placing

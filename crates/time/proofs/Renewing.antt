@@ -1,4 +1,4 @@
--- Step 1 of a tick, guest by guest: what the loop knows at i, and what a turn adds.
+-- Step 1 of a tick, of one guest, and guest by guest: what the loop knows at i, and what a turn adds.
 use mathlib.Core.Path.{_≡_, refl, sym, ap, _∙_}
 use mathlib.Core.Bool.{true}
 use mathlib.Core.List.{List, [], _∷_, map}
@@ -7,11 +7,12 @@ use native.Mathlib.Numerals.{add-one}
 use native.Mathlib.Omega.{arith}
 use lib.ListN.{length, getD, set}
 use Rattle.laws.specs.Lists.{changed}
+use Rattle.rules.specs.declared.Entry.{Entry}
 use Rattle.rules.specs.declared.Guest.{Guest as GuestPlace}
 use Rattle.rules.specs.declared.State.{State}
 use Rattle.rules.specs.Limits.{guestPlaces, lastTick, deadlineBound}
 use Rattle.rules.specs.Model.{Guest, guest, deadlineOf, guestAt}
-use Rattle.rules.specs.Places.{guestPlace, noGuestPlace, model}
+use Rattle.rules.specs.Places.{guestOf, guestPlace, noGuestPlace, model}
 use Rattle.rules.specs.Sound.{sound}
 use Rattle.rules.specs.Steps.{renew, renewed}
 use Rattle.rules.specs.Table.{noEntry}
@@ -19,6 +20,33 @@ use Rattle.rules.proofs.Facts.{GuestGood, sane-model, guests-count}
 use Rattle.sound.specs.Testing.{guestsOf}
 use Rattle.time.specs.Clocks.{placed}
 use Rattle.time.proofs.Placing.{placed-changed, guests-back, table-good, Here, guest-inside, guest-here, guest-good}
+
+-- ---- one guest
+
+module _ (e : Entry) (g : GuestPlace) where
+  abbrev renewal : ℕ → ℕ → GuestPlace
+  renewal j c = guestPlace (renew (guestOf e (record { jobs = j; left = c; deadline = g .deadline; own = g .own; lent = g .lent })))
+
+  pub renew-idle : g .jobs ≡ 0 → g ≡ guestPlace (renew (guestOf e g))
+  renew-idle h = (λ i. record { jobs = h i; left = g .left; deadline = g .deadline; own = g .own; lent = g .lent }) ∙ ap (λ (j : ℕ). renewal j (g .left)) (sym h)
+
+  pub renew-left : (g .left ≡ 0 → ⊥) → g ≡ guestPlace (renew (guestOf e g))
+  renew-left h = go (g .jobs) (g .left) h
+    where
+      go : (j c : ℕ) → (c ≡ 0 → ⊥) → record { jobs = j; left = c; deadline = g .deadline; own = g .own; lent = g .lent } ≡ renewal j c
+      go zero c n = refl
+      go (suc j) zero n = absurd (n refl)
+      go (suc j) (suc c) n = refl
+
+  pub renew-spent : (g .jobs ≡ 0 → ⊥) → g .left ≡ 0
+      → record { jobs = g .jobs; left = e .budget; deadline = g .deadline + e .period; own = g .own; lent = g .lent } ≡ guestPlace (renew (guestOf e g))
+  renew-spent n h = go (g .jobs) n ∙ ap (λ (c : ℕ). renewal (g .jobs) c) (sym h)
+    where
+      go : (j : ℕ) → (j ≡ 0 → ⊥) → record { jobs = j; left = e .budget; deadline = g .deadline + e .period; own = g .own; lent = g .lent } ≡ renewal j 0
+      go zero n = absurd (n refl)
+      go (suc j) n = refl
+
+-- ---- guest by guest
 
 -- the first i guests are renewed
 abbrev partly : ℕ → List Guest → List Guest

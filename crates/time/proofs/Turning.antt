@@ -37,12 +37,13 @@ use Rattle.rules.proofs.Ticking.{advance-add, advance-sane}
 use Rattle.rules.proofs.Walks.{ticks-in-le, lines-more, ticks-more, ticks-enough, lines-enough, walk-lines, walk-left, walk-state}
 use Rattle.order.specs.Choice.{shown, inUse}
 use Rattle.order.proofs.Choosing.{lowest-first, in-use-few}
-use Rattle.time.specs.declared.portions.Charge.{Charge}
-use Rattle.time.specs.Charges.{firstOf, chargeOf, ranPlace, spentPlace}
+use Rattle.portions.specs.declared.Charge.{Charge}
+use Rattle.portions.specs.Charges.{firstOf, chargeOf}
+use Rattle.time.specs.Charges.{ranPlace, spentPlace}
 use Rattle.time.specs.declared.walking.Clock.{Clock}
 use Rattle.time.specs.Dues.{never, dueAt, SoonestFrom}
 use Rattle.time.specs.Clocks.{placed, listed, begunFrom, startedAt, laterBy, stateOf, walkOf}
-use Rattle.time.proofs.Charging.{ranBy, lostBy, made, Fits, charge-fits}
+use Rattle.portions.proofs.Charging.{ranBy, lostBy, made, Fits, charge-fits}
 use Rattle.time.proofs.Mirroring.{mirrors}
 use Rattle.time.proofs.Placing.{placed-at, placed-changed, table-good, packed-fields, spares-long, guest-here, guest-good}
 

@@ -13,7 +13,7 @@ use Rattle.rules.specs.Limits.{guestPlaces, sparePlaces}
 use Rattle.rules.specs.Model.{Guest, Spare, Model}
 use Rattle.rules.specs.Places.{guestPlace, sparePlace, noGuestPlace, noSparePlace}
 use Rattle.rules.specs.Steps.{renewed}
-use Rattle.time.specs.declared.portions.Charge.{Charge}
+use Rattle.portions.specs.declared.Charge.{Charge}
 use Rattle.time.specs.declared.walking.Clock.{Clock}
 
 -- guests in their places

@@ -9,10 +9,10 @@ ghost use Rattle.rules.specs.Refusals.{first, numberOf};
 ghost use Rattle.rules.specs.Sound.{sound};
 ghost use Rattle.rules.specs.Steps.{advance};
 ghost use Rattle.rules.specs.Walks.{Walked};
-use crate::portions::next_of;
 use crate::renewal::guests_renewed;
 use crate::walking::no_portions;
 use crate::walking::walked;
+use portions::next_of;
 use rules::Answer;
 use rules::Asked;
 use rules::LAST_TICK;
@@ -22,8 +22,8 @@ use rules::Refusal;
 use rules::State;
 use rules::Walk;
 
+mod charges;
 mod dues;
-mod portions;
 mod renewal;
 mod walking;
 

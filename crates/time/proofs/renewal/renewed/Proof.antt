@@ -1,5 +1,5 @@
 -- `renewal::renewed` meets its contract: only an active guest with no budget left is renewed.
-use Rattle.time.proofs.Charging.{renew-idle, renew-left, renew-spent}
+use Rattle.time.proofs.Renewing.{renew-idle, renew-left, renew-spent}
 use borrow.Author.Needs.{needs}
 use Rattle.time.proofs.renewal.renewed.Statement.{statement}
 use Rattle.time.proofs.renewal.renewed.Tie as tie

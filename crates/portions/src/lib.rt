@@ -1,32 +1,28 @@
 // One portion: what comes next, and what so many ticks on it charge to whom.
 ghost use mathlib.Core.Path.{_≡_};
-ghost use Prim.Native.Nat.{_+_, _≤_, _<_, _^_, min};
-ghost use Rattle.rules.specs.Calls.{portionOf};
-ghost use Rattle.rules.specs.Steps.{portion};
-ghost use Rattle.order.specs.Choice.{pickOf};
-ghost use Rattle.time.specs.Charges.{firstOf, removedBy, blank, runCharge, chargeOf, ranPlace, spentPlace};
+ghost use Prim.Native.Nat.{min};
+ghost use Rattle.portions.specs.Charges.{removedBy, blank, runCharge, NextTold, ChargeTold};
 use order::Chosen;
-use rules::Guest;
 use rules::Next;
 use rules::Source;
 use rules::Spare;
 
 // What is charged: so many ticks, to a guest's own budget and tallies, to the first spare, and to the processor's tallies. `removed` is 1
 // where the first spare is spent, and else 0.
-pub(crate) struct Charge {
-    pub(crate) ticks: u64,
-    pub(crate) guest: usize,
-    pub(crate) own: u64,
-    pub(crate) lent: u64,
-    pub(crate) spent: u64,
-    pub(crate) removed: usize,
-    pub(crate) burned: u64,
-    pub(crate) idle: u64,
+pub struct Charge {
+    pub ticks: u64,
+    pub guest: usize,
+    pub own: u64,
+    pub lent: u64,
+    pub spent: u64,
+    pub removed: usize,
+    pub burned: u64,
+    pub idle: u64,
 }
 
 // What the chosen guest and the first spare, if there is any, make the next tick use.
-pub(crate) fn next_of(chosen: Chosen, first: Spare, any: bool) -> Next
-    ensures { λ r. ⌜ portionOf r ≡ portion (pickOf chosen) (firstOf any first) ⌝ }
+pub fn next_of(chosen: Chosen, first: Spare, any: bool) -> Next
+    ensures { λ r. ⌜ NextTold chosen first any r ⌝ }
 {
     let Chosen::Runs(i, d, c) = chosen else {
         if any {
@@ -98,8 +94,8 @@ fn run_charge(source: Source, i: usize, ticks: u64, removed: usize) -> Charge
 }
 
 // Where nobody runs, the charge names the guest that ran last: nothing is added to its numbers.
-pub(crate) fn charge_of(next: Next, left: u64, last: usize) -> Charge
-    ensures { λ r. ⌜ r ≡ chargeOf left last (portionOf next) ⌝ }
+pub fn charge_of(next: Next, left: u64, last: usize) -> Charge
+    ensures { λ r. ⌜ ChargeTold next left last r ⌝ }
 {
     match next {
         Next::Run(i, source, _, span) => {
@@ -122,27 +118,5 @@ pub(crate) fn charge_of(next: Next, left: u64, last: usize) -> Charge
             let c = blank(left, last);
             Charge { idle: left, ..c }
         }
-    }
-}
-
-pub(crate) fn ran(g: Guest, c: Charge) -> Guest
-    requires { ⌜ (c .own ≤ g .left) × (g .own + c .own < 2 ^ 64) × (g .lent + c .lent < 2 ^ 64) ⌝ }
-    ensures { λ r. ⌜ r ≡ ranPlace c g ⌝ }
-{
-    Guest {
-        left: g.left - c.own,
-        own: g.own + c.own,
-        lent: g.lent + c.lent,
-        ..g
-    }
-}
-
-pub(crate) fn spent(x: Spare, c: Charge) -> Spare
-    requires { ⌜ c .spent ≤ x .capacity ⌝ }
-    ensures { λ r. ⌜ r ≡ spentPlace c x ⌝ }
-{
-    Spare {
-        capacity: x.capacity - c.spent,
-        ..x
     }
 }

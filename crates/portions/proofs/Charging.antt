@@ -1,5 +1,5 @@
--- One portion: what is renewed, what comes next and what is charged, as the code has them and as the rules say.
-use mathlib.Core.Path.{_≡_, refl, sym, ap, fun-ext, _∙_}
+-- One portion: what comes next and what is charged, as the code has them and as the rules say.
+use mathlib.Core.Path.{_≡_, refl, sym, ap, fun-ext}
 use mathlib.Core.Bool.{true, cond}
 use mathlib.Core.List.{List, [], _∷_}
 use Prim.Native.Nat.{ℕ, zero, suc, _+_, _-_, _≤_, _<_, min}
@@ -9,8 +9,6 @@ use lib.ListN.{length, drop}
 use borrow.Author.Tests.{le-leb, lt-leb}
 use Rattle.laws.specs.Lists.{changed}
 use Rattle.laws.proofs.Cases.{by-leb}
-use Rattle.rules.specs.declared.Entry.{Entry}
-use Rattle.rules.specs.declared.Guest.{Guest as GuestPlace}
 use Rattle.rules.specs.declared.Spare.{Spare as SparePlace}
 use Rattle.rules.specs.declared.Source.{Source}
 use Rattle.rules.specs.declared.Source.the-variants.{Own, SpareOf}
@@ -18,37 +16,11 @@ use Rattle.rules.specs.declared.Next.the-variants.{Run}
 use Rattle.rules.specs.Calls.{portionOf}
 use Rattle.rules.specs.Lines.{ticksOn}
 use Rattle.rules.specs.Model.{Guest, guest, Spare, spare, Model, leftOf, capacityOf, guestAt, spareAt}
-use Rattle.rules.specs.Places.{guestOf, guestPlace}
 use Rattle.rules.specs.Promises.{Uses}
-use Rattle.rules.specs.Steps.{renew, runs, Portion, onOwn, onSpare, burning, nothing, portion}
+use Rattle.rules.specs.Steps.{runs, Portion, onOwn, onSpare, burning, nothing, portion}
 use Rattle.rules.proofs.Spans.{runOwnBy, runLentBy, spendBy, laterBy, chargeBy, AtMost}
-use Rattle.time.specs.declared.portions.Charge.{Charge}
-use Rattle.time.specs.Charges.{firstOf, removedBy, runCharge, chargeOf}
-
--- ---- step 1
-
-module _ (e : Entry) (g : GuestPlace) where
-  abbrev renewal : ℕ → ℕ → GuestPlace
-  renewal j c = guestPlace (renew (guestOf e (record { jobs = j; left = c; deadline = g .deadline; own = g .own; lent = g .lent })))
-
-  pub renew-idle : g .jobs ≡ 0 → g ≡ guestPlace (renew (guestOf e g))
-  renew-idle h = (λ i. record { jobs = h i; left = g .left; deadline = g .deadline; own = g .own; lent = g .lent }) ∙ ap (λ (j : ℕ). renewal j (g .left)) (sym h)
-
-  pub renew-left : (g .left ≡ 0 → ⊥) → g ≡ guestPlace (renew (guestOf e g))
-  renew-left h = go (g .jobs) (g .left) h
-    where
-      go : (j c : ℕ) → (c ≡ 0 → ⊥) → record { jobs = j; left = c; deadline = g .deadline; own = g .own; lent = g .lent } ≡ renewal j c
-      go zero c n = refl
-      go (suc j) zero n = absurd (n refl)
-      go (suc j) (suc c) n = refl
-
-  pub renew-spent : (g .jobs ≡ 0 → ⊥) → g .left ≡ 0
-      → record { jobs = g .jobs; left = e .budget; deadline = g .deadline + e .period; own = g .own; lent = g .lent } ≡ guestPlace (renew (guestOf e g))
-  renew-spent n h = go (g .jobs) n ∙ ap (λ (c : ℕ). renewal (g .jobs) c) (sym h)
-    where
-      go : (j : ℕ) → (j ≡ 0 → ⊥) → record { jobs = j; left = e .budget; deadline = g .deadline + e .period; own = g .own; lent = g .lent } ≡ renewal j 0
-      go zero n = absurd (n refl)
-      go (suc j) n = refl
+use Rattle.portions.specs.declared.Charge.{Charge}
+use Rattle.portions.specs.Charges.{firstOf, removedBy, runCharge, chargeOf}
 
 -- ---- what comes next
 

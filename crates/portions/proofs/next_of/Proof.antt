@@ -2,10 +2,10 @@
 use mathlib.Core.Path.{refl}
 use native.Mathlib.Omega.{arith}
 use Rattle.order.specs.Choice.{pickOf}
-use Rattle.time.proofs.Charging.{spare-first, spare-later}
+use Rattle.portions.proofs.Charging.{spare-first, spare-later}
 use borrow.Author.Needs.{needs}
-use Rattle.time.proofs.portions.next_of.Statement.{statement}
-use Rattle.time.proofs.portions.next_of.Tie as tie
+use Rattle.portions.proofs.next_of.Statement.{statement}
+use Rattle.portions.proofs.next_of.Tie as tie
 
 enum-known-chosen : tie.Need-enum-known-chosen
 enum-known-chosen c = search needs

@@ -1,7 +1,7 @@
--- `portions::ran` meets its contract. The file is there so that a wrong tally is refused at the number itself.
+-- `charges::ran` meets its contract. The file is there so that a wrong tally is refused at the number itself.
 use borrow.Author.Needs.{needs}
-use Rattle.time.proofs.portions.ran.Statement.{statement}
-use Rattle.time.proofs.portions.ran.Tie as tie
+use Rattle.time.proofs.charges.ran.Statement.{statement}
+use Rattle.time.proofs.charges.ran.Tie as tie
 
 sub-t3 : tie.Need-sub-t3
 sub-t3 c = search needs

@@ -1,9 +1,9 @@
 -- `portions::charge_of` meets its contract: each case of what comes next is charged as the rules charge a tick on it.
-use mathlib.Core.Path.{_∙_}
-use Rattle.time.proofs.Charging.{run-charged}
+use mathlib.Core.Path.{refl, _∙_}
+use Rattle.portions.proofs.Charging.{run-charged}
 use borrow.Author.Needs.{needs}
-use Rattle.time.proofs.portions.charge_of.Statement.{statement}
-use Rattle.time.proofs.portions.charge_of.Tie as tie
+use Rattle.portions.proofs.charge_of.Statement.{statement}
+use Rattle.portions.proofs.charge_of.Tie as tie
 
 enum-known-next : tie.Need-enum-known-next
 enum-known-next c = search needs
@@ -45,10 +45,10 @@ returns c =
 returns-2 : tie.Need-returns-2
 returns-2 c =
     let a = c .before .before in
-    rw (a .before .before .next2 .given .1, c .blank .ensures, c .before .removed-by2 .ensures, a .smaller2 .ensures)
+    rw (a .before .before .next2 .given .1, c .blank .ensures, c .before .removed-by2 .ensures, a .smaller2 .ensures) refl
 
 returns-3 : tie.Need-returns-3
-returns-3 c = rw (c .before .enum-told .given .1, c .blank2 .ensures)
+returns-3 c = rw (c .before .enum-told .given .1, c .blank2 .ensures) refl
 
 pub charge-of-spec : {M : Type 1} → statement M
 charge-of-spec =

@@ -1,8 +1,8 @@
 -- `portions::removed_by` meets its contract.
 use native.Mathlib.Omega.{arith}
 use borrow.Author.Tests.{le-leb, lt-leb}
-use Rattle.time.proofs.portions.removed_by.Statement.{statement}
-use Rattle.time.proofs.portions.removed_by.Tie as tie
+use Rattle.portions.proofs.removed_by.Statement.{statement}
+use Rattle.portions.proofs.removed_by.Tie as tie
 
 returns : tie.Need-returns
 returns c = rw (le-leb (c .before .args .capacity) (c .before .args .ticks) (omega arith))

@@ -1,0 +1,3 @@
+-- Laws of one portion.
+pub mod Charging
+pub mod Told

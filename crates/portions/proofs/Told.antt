@@ -1,0 +1,11 @@
+-- Any two answers that a predicate allows are equal.
+use mathlib.Core.Path.{sym, _∙_}
+use Rattle.rules.proofs.Outcomes.{answers-determined}
+use Rattle.portions.specs.Charges.{OneAnswer}
+
+pub one-answer : OneAnswer
+one-answer =
+    record {
+      next = λ chosen first any a b p q. answers-determined .portion a b (p ∙ sym q);
+      charge = λ next left last a b p q. p ∙ sym q;
+    }

@@ -1,0 +1,55 @@
+-- What comes next, what so many ticks on it charge to whom, and that each answer is settled.
+use mathlib.Core.Path.{_≡_}
+use mathlib.Core.Bool.{Bool, cond}
+use mathlib.Core.List.{List, [], _∷_}
+use Prim.Native.Nat.{ℕ, min}
+use lib.Dec.{leb}
+use Rattle.rules.specs.declared.Spare.{Spare as SparePlace}
+use Rattle.rules.specs.declared.Next.{Next}
+use Rattle.rules.specs.declared.Source.{Source}
+use Rattle.rules.specs.declared.Source.the-variants.{Own, SpareOf}
+use Rattle.rules.specs.Calls.{portionOf}
+use Rattle.rules.specs.Model.{Spare}
+use Rattle.rules.specs.Places.{spareOf}
+use Rattle.rules.specs.Steps.{Portion, onOwn, onSpare, burning, nothing, portion}
+use Rattle.order.specs.declared.Chosen.{Chosen}
+use Rattle.order.specs.Choice.{pickOf}
+use Rattle.portions.specs.declared.Charge.{Charge}
+
+-- the first spare, if there is any
+abbrev pub firstOf : Bool → SparePlace → List Spare
+firstOf any x = cond any (spareOf x ∷ []) []
+
+-- "a spare at 0 is removed"
+abbrev pub removedBy : ℕ → ℕ → ℕ
+removedBy ticks capacity = cond (leb capacity ticks) 1 0
+
+-- so many ticks, charged to nobody yet
+abbrev pub blank : ℕ → ℕ → Charge
+blank ticks guest = record { ticks = ticks; guest = guest; own = 0; lent = 0; spent = 0; removed = 0; burned = 0; idle = 0 }
+
+-- ticks that a guest runs, on its own budget or on a spare
+abbrev pub runCharge : Source → ℕ → ℕ → ℕ → Charge
+runCharge Own i n removed = record { ticks = n; guest = i; own = n; lent = 0; spent = 0; removed = 0; burned = 0; idle = 0 }
+runCharge (SpareOf owner) i n removed = record { ticks = n; guest = i; own = 0; lent = n; spent = n; removed = removed; burned = 0; idle = 0 }
+
+-- of the ticks left, those that stay on the portion, each charged where a tick on it is charged
+abbrev pub chargeOf : ℕ → ℕ → Portion → Charge
+chargeOf left last (onOwn i d span) = runCharge Own i (min left span) (removedBy (min left span) span)
+chargeOf left last (onSpare i owner d span) = runCharge (SpareOf owner) i (min left span) (removedBy (min left span) span)
+chargeOf left last (burning owner d span) =
+    record { ticks = min left span; guest = last; own = 0; lent = 0; spent = min left span; removed = removedBy (min left span) span; burned = min left span; idle = 0 }
+chargeOf left last nothing = record { ticks = left; guest = last; own = 0; lent = 0; spent = 0; removed = 0; burned = 0; idle = left }
+
+-- steps 3 to 5 of a tick: what the chosen guest and the first spare, if there is any, make the next tick use
+abbrev pub NextTold : Chosen → SparePlace → Bool → Next → Type 0
+NextTold chosen first any r = portionOf r ≡ portion (pickOf chosen) (firstOf any first)
+
+-- what is charged of the ticks left
+abbrev pub ChargeTold : Next → ℕ → ℕ → Charge → Type 0
+ChargeTold next left last r = r ≡ chargeOf left last (portionOf next)
+
+-- any two answers that a predicate allows are equal
+pub record OneAnswer : Type 0 where
+  pub next : (chosen : Chosen) (first : SparePlace) (any : Bool) (a b : Next) → NextTold chosen first any a → NextTold chosen first any b → a ≡ b
+  pub charge : (next : Next) (left last : ℕ) (a b : Charge) → ChargeTold next left last a → ChargeTold next left last b → a ≡ b

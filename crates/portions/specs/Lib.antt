@@ -1,0 +1,2 @@
+-- What one portion is and charges.
+pub mod Charges

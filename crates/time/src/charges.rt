@@ -1,0 +1,29 @@
+// What a charge takes from a guest and from a spare.
+ghost use mathlib.Core.Path.{_≡_};
+ghost use Prim.Native.Nat.{_+_, _≤_, _<_, _^_};
+ghost use Rattle.time.specs.Charges.{ranPlace, spentPlace};
+use portions::Charge;
+use rules::Guest;
+use rules::Spare;
+
+pub(crate) fn ran(g: Guest, c: Charge) -> Guest
+    requires { ⌜ (c .own ≤ g .left) × (g .own + c .own < 2 ^ 64) × (g .lent + c .lent < 2 ^ 64) ⌝ }
+    ensures { λ r. ⌜ r ≡ ranPlace c g ⌝ }
+{
+    Guest {
+        left: g.left - c.own,
+        own: g.own + c.own,
+        lent: g.lent + c.lent,
+        ..g
+    }
+}
+
+pub(crate) fn spent(x: Spare, c: Charge) -> Spare
+    requires { ⌜ c .spent ≤ x .capacity ⌝ }
+    ensures { λ r. ⌜ r ≡ spentPlace c x ⌝ }
+{
+    Spare {
+        capacity: x.capacity - c.spent,
+        ..x
+    }
+}
