@@ -85,6 +85,13 @@ module _ (letter value : ℕ) where
   pub with-none : (letter ≡ 70 → ⊥) → (letter ≡ 65 → ⊥) → (letter ≡ 68 → ⊥) → (letter ≡ 82 → ⊥) → Malformed ≡ lineWith letter value
   with-none a b c d = rw (ne-eqb letter 70 a, ne-eqb letter 65 b, ne-eqb letter 68 c, ne-eqb letter 82 d)
 
+module _ (letter : ℕ) (l bs : List ℕ) (n : Number) (e : gotIn l n ≡ lastAt bs) where
+  pub one-none : n .ok ≡ false → Malformed ≡ oneLine letter (lastAt bs)
+  one-none h = ap (oneLine letter) (read-none l n e h)
+
+  pub one-got : n .ok ≡ true → lineWith letter (n .value) ≡ oneLine letter (lastAt bs)
+  one-got h = ap (oneLine letter) (read-got l n e h)
+
 -- ---- the whole line
 
 pub line-empty : (l : List ℕ) → length l ≡ 0 → Malformed ≡ lineOf l
@@ -100,13 +107,6 @@ module _ (l : List ℕ) (some : 0 < length l) where
   unfolding lineOf
   line-guest e = sym (line-cons ∙ rw e)
 
-  module _ (other : getD l 0 0 ≡ 71 → ⊥) (n : Number) (e : gotIn l n ≡ lastAt (drop 1 l)) where
-    line-other : lineOf l ≡ oneLine (getD l 0 0) (lastAt (drop 1 l))
-    unfolding lineOf
-    line-other = line-cons ∙ rw (ne-eqb (getD l 0 0) 71 other)
-
-    pub line-none : n .ok ≡ false → Malformed ≡ lineOf l
-    line-none h = ap (oneLine (getD l 0 0)) (read-none l n e h) ∙ sym line-other
-
-    pub line-one : n .ok ≡ true → lineWith (getD l 0 0) (n .value) ≡ lineOf l
-    line-one h = ap (oneLine (getD l 0 0)) (read-got l n e h) ∙ sym line-other
+  pub line-other : (getD l 0 0 ≡ 71 → ⊥) → oneLine (getD l 0 0) (lastAt (drop 1 l)) ≡ lineOf l
+  unfolding lineOf
+  line-other other = sym (line-cons ∙ rw (ne-eqb (getD l 0 0) 71 other))

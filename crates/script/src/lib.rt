@@ -4,7 +4,7 @@ ghost use mathlib.Core.Path.{_≡_};
 ghost use Prim.Native.Nat.{_+_, _-_, _*_, _≤_, _<_};
 ghost use lib.ListN.{length, drop};
 ghost use lib.Seq.{slice};
-ghost use Rattle.script.specs.Script.{ends, lastAt, guestLine, lineWith, LineTold};
+ghost use Rattle.script.specs.Script.{ends, lastAt, guestLine, lineWith, oneLine, LineTold};
 ghost use Rattle.script.specs.Numbers.{isDigit, digitsIn, valueIn, mostDigits, wellFormed, numberAt, gotIn};
 
 // What a line asks for; the letters are `F`, `G`, `A`, `D` and `R`.
@@ -174,7 +174,18 @@ fn line_with(letter: u8, value: u64) -> Line
     }
 }
 
-// A line with its line feed; any bytes.
+fn one_line(letter: u8, line: &[u8]) -> Line
+    requires { ⌜ 1 ≤ length (now line) ⌝ }
+    ensures { λ r. ⌜ r ≡ oneLine letter (lastAt (drop 1 (now (line .entry)))) ⌝ }
+{
+    let n = last_at(line, 1);
+    if !n.ok {
+        return Line::Malformed;
+    }
+    line_with(letter, n.value)
+}
+
+// A line with its line feed; any bytes. `G` has two numbers, and every other letter one.
 pub fn line_of(line: &[u8]) -> Line
     ensures { λ r. ⌜ LineTold (now (line .entry)) r ⌝ }
 {
@@ -182,12 +193,8 @@ pub fn line_of(line: &[u8]) -> Line
         return Line::Malformed;
     }
     let letter = line[0];
-    if letter == b'G' {
-        return guest_line(line);
+    match letter {
+        b'G' => guest_line(line),
+        _ => one_line(letter, line),
     }
-    let n = last_at(line, 1);
-    if !n.ok {
-        return Line::Malformed;
-    }
-    line_with(letter, n.value)
 }

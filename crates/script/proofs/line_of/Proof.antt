@@ -1,7 +1,6 @@
 -- `script::line_of` meets its contract.
 use mathlib.Core.Path.{_∙_}
-use borrow.Author.Tests.{not-true, not-false}
-use Rattle.script.proofs.Lines.{line-empty, line-guest, line-none, line-one}
+use Rattle.script.proofs.Lines.{line-empty, line-guest, line-other}
 use borrow.Author.Needs.{needs}
 use Rattle.script.proofs.line_of.Statement.{statement}
 use Rattle.script.proofs.line_of.Tie as tie
@@ -15,34 +14,14 @@ shared-slice-read-letter c = search needs
 guest-line-requires : tie.Need-guest-line-requires
 guest-line-requires c κs = search needs
 
-returns-2 : tie.Need-returns-2
-returns-2 c = c .guest-line .ensures ∙ line-guest (c .before .before .before .before .before .args .line .now) (search needs) (c .before .if2 .taken)
+one-line-requires : tie.Need-one-line-requires
+one-line-requires c κs = search needs
 
-last-at-requires : tie.Need-last-at-requires
-last-at-requires c κs = search needs
+returns-2 : tie.Need-returns-2
+returns-2 c = c .guest-line .ensures ∙ line-guest (c .before .before .before .before .before .args .line .now) (search needs) (search needs)
 
 returns-3 : tie.Need-returns-3
-returns-3 c =
-    let p = c .before .before in
-    line-none (p .before .before .before .before .before .args .line .now) (search needs) (p .before .if2 .left) (p .last-at .result) (p .last-at .ensures) (not-true _ (c .if3 .taken))
-
-line-with-requires : tie.Need-line-with-requires
-line-with-requires c κs = search needs
-
-returns-4 : tie.Need-returns-4
-returns-4 c =
-    let p = c .before .before .before in
-    c .line-with .ensures ∙ line-one (p .before .before .before .before .before .args .line .now) (search needs) (p .before .if2 .left) (p .last-at .result) (p .last-at .ensures) (not-false _ (c .before .if3 .left))
+returns-3 c = c .one-line .ensures ∙ line-other (c .before .before .before .before .before .args .line .now) (search needs) (search needs)
 
 pub line-of-spec : {M : Type 1} → statement M
-line-of-spec =
-    tie.close
-    (tie.spec
-    returns
-    shared-slice-read-letter
-    guest-line-requires
-    returns-2
-    last-at-requires
-    returns-3
-    line-with-requires
-    returns-4)
+line-of-spec = tie.close (tie.spec returns shared-slice-read-letter guest-line-requires one-line-requires returns-2 returns-3)
