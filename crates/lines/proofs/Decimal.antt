@@ -10,7 +10,8 @@ use lib.Seq.{sets, length-sets}
 use borrow.Author.Tests.{lt-ltb, le-ltb}
 use Rattle.laws.proofs.Cases.{by-ltb}
 use Rattle.laws.proofs.Parts.{stored-before}
-use Rattle.lines.specs.Decimal.{digits, digitCount, decimal, valueOf, DecimalReads, NoLeadingZero}
+use Rattle.laws.specs.Digits.{valueIn}
+use Rattle.lines.specs.Decimal.{digits, digitCount, decimal, DecimalReads, NoLeadingZero}
 
 -- ---- how many digits
 
@@ -125,13 +126,13 @@ module _ {n : ℕ} {before : List ℕ} {at i rest : ℕ} {after : List ℕ} (s :
 -- ---- what they mean
 
 -- one digit more behind the others
-value-more : (v : ℕ) (bs : List ℕ) (b : ℕ) → valueOf v (bs ++ (b ∷ [])) ≡ valueOf v bs * 10 + (b - 48)
-unfolding valueOf
+value-more : (v : ℕ) (bs : List ℕ) (b : ℕ) → valueIn v (bs ++ (b ∷ [])) ≡ valueIn v bs * 10 + (b - 48)
+unfolding valueIn
 value-more v [] b = refl
 value-more v (a ∷ bs) b = value-more (v * 10 + (a - 48)) bs b
 
-digits-read : (count n : ℕ) → n < 10 ^ count → valueOf 0 (digits count n) ≡ n
-unfolding digits valueOf
+digits-read : (count n : ℕ) → n < 10 ^ count → valueIn 0 (digits count n) ≡ n
+unfolding digits valueIn
 digits-read zero n h = omega arith
 digits-read (suc count) n h =
     omega (arith, value-more 0 (digits count (n / 10)) (48 + n % 10), digits-read count (n / 10) (omega (arith, pow-suc 10 count)))

@@ -12,7 +12,7 @@ use Rattle.laws.proofs.Cases.{by-test, by-leb}
 use Rattle.laws.proofs.Parts.{stored-on}
 use Rattle.rules.specs.declared.Portion.{Portion}
 use Rattle.lines.specs.Decimal.{decimal}
-use Rattle.lines.specs.Lines.{spaced, usedBytes, portionBytes, refusalBytes, endBytes, lineRoom, hasRoom, LinePut, PartPut}
+use Rattle.lines.specs.Lines.{spaced, closed, usedBytes, portionBytes, refusalBytes, endBytes, lineRoom, hasRoom, LinePut, PartPut}
 
 -- ---- parts
 
@@ -47,18 +47,18 @@ module _ (before : List ℕ) (filled : ℕ) {after : List ℕ} {r : ℕ} where
   unfolding portionBytes
   portion-parts p first end used = part-on (part-on (part-on first end) used) (part-byte 10 after r refl)
 
-  pub refusal-parts : (n : ℕ) → PartPut (spaced n) 21 (set before filled 33) (filled + 1) after r → PartPut (refusalBytes n) lineRoom before filled (set after r 10) (r + 1)
+  pub refusal-parts : (n : ℕ) → PartPut (closed n 10) 22 (set before filled 33) (filled + 1) after r → PartPut (refusalBytes n) lineRoom before filled after r
   unfolding refusalBytes
-  refusal-parts n number = part-within (omega arith) (part-on (part-byte 33 before filled refl) (part-on number (part-byte 10 after r refl)))
+  refusal-parts n number = part-within (omega arith) (part-on (part-byte 33 before filled refl) number)
 
-  pub end-parts : (tick : ℕ) → PartPut (spaced tick) 21 (set (set (set before filled 101) (filled + 1) 110) (filled + 2) 100) (filled + 3) after r
-      → PartPut (endBytes tick) lineRoom before filled (set after r 10) (r + 1)
+  pub end-parts : (tick : ℕ) → PartPut (closed tick 10) 22 (set (set (set before filled 101) (filled + 1) 110) (filled + 2) 100) (filled + 3) after r
+      → PartPut (endBytes tick) lineRoom before filled after r
   unfolding endBytes
   end-parts tick number =
       part-within (omega arith)
       (part-on (part-byte 101 before filled refl)
       (part-on (part-byte 110 (set before filled 101) (filled + 1) (omega arith))
-      (part-on (part-byte 100 (set (set before filled 101) (filled + 1) 110) (filled + 2) (omega arith)) (part-on number (part-byte 10 after r refl)))))
+      (part-on (part-byte 100 (set (set before filled 101) (filled + 1) 110) (filled + 2) (omega arith)) number)))
 
 -- ---- room for so many bytes
 

@@ -2,9 +2,10 @@
 use mathlib.Core.Path.{_≡_}
 use mathlib.Core.Bool.{cond}
 use mathlib.Core.List.{List, [], _∷_, _++_}
-use Prim.Native.Nat.{ℕ, zero, suc, _+_, _-_, _*_, _/_, _%_, _<_}
+use Prim.Native.Nat.{ℕ, zero, suc, _+_, _/_, _%_, _<_}
 use lib.Dec.{ltb}
 use lib.ListN.{getD}
+use Rattle.laws.specs.Digits.{valueIn}
 
 -- the last digits of n, so many
 unfoldable pub digits : ℕ → ℕ → List ℕ
@@ -23,14 +24,9 @@ decimal n = digits (digitCount n n) n
 
 -- ---- what it means
 
--- the number that digits make behind those that make v
-unfoldable pub valueOf : ℕ → List ℕ → ℕ
-valueOf v [] = v
-valueOf v (b ∷ bs) = valueOf (v * 10 + (b - 48)) bs
-
--- a number's digits make that number
+-- a number's digits make that number, as a line of input is read
 abbrev pub DecimalReads : Type 0
-DecimalReads = (n : ℕ) → valueOf 0 (decimal n) ≡ n
+DecimalReads = (n : ℕ) → valueIn 0 (decimal n) ≡ n
 
 -- the first digit of a number above 0 is not 0
 abbrev pub NoLeadingZero : Type 0

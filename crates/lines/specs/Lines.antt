@@ -21,15 +21,15 @@ none = 32 ∷ 45 ∷ []
 abbrev pub spaced : ℕ → List ℕ
 spaced n = 32 ∷ decimal n
 
--- "the owner followed by `o` (own) or `s` (spare)"
-abbrev pub ownerBytes : ℕ → ℕ → List ℕ
-ownerBytes owner letter = spaced owner ++ (letter ∷ [])
+-- a space, a number and one byte behind it, as in "the owner followed by `o` (own) or `s` (spare)"
+abbrev pub closed : ℕ → ℕ → List ℕ
+closed n last = spaced n ++ (last ∷ [])
 
 -- "guest or `-`, and the owner followed by `o` (own) or `s` (spare), or `-`"
 unfoldable pub usedBytes : Used → List ℕ
-usedBytes (Own i) = spaced i ++ ownerBytes i 111
-usedBytes (SpareOf i owner) = spaced i ++ ownerBytes owner 115
-usedBytes (Burned owner) = none ++ ownerBytes owner 115
+usedBytes (Own i) = spaced i ++ closed i 111
+usedBytes (SpareOf i owner) = spaced i ++ closed owner 115
+usedBytes (Burned owner) = none ++ closed owner 115
 usedBytes Idle = none ++ none
 
 -- "one line per portion: first tick, end tick", and what it used

@@ -3,6 +3,7 @@ ghost use mathlib.Core.Path.{_≡_};
 ghost use Prim.Native.Nat.{_+_};
 ghost use lib.Dec.{leb};
 ghost use Rattle.lines.specs.Lines.{LinePut, portionBytes, refusalBytes, endBytes, lineRoom};
+use crate::parts::put_closed;
 use crate::parts::put_number;
 use crate::parts::put_spaced;
 use crate::parts::put_used;
@@ -44,9 +45,7 @@ pub fn put_refusal(number: u64, buffer: &mut [u8], filled: usize) -> usize
         return filled;
     }
     buffer[filled] = b'!';
-    let behind = put_spaced(number, buffer, filled + 1);
-    buffer[behind] = b'\n';
-    behind + 1
+    put_closed(number, b'\n', buffer, filled + 1)
 }
 
 pub fn put_end(tick: u64, buffer: &mut [u8], filled: usize) -> usize
@@ -58,7 +57,5 @@ pub fn put_end(tick: u64, buffer: &mut [u8], filled: usize) -> usize
     buffer[filled] = b'e';
     buffer[filled + 1] = b'n';
     buffer[filled + 2] = b'd';
-    let behind = put_spaced(tick, buffer, filled + 3);
-    buffer[behind] = b'\n';
-    behind + 1
+    put_closed(tick, b'\n', buffer, filled + 3)
 }

@@ -3,7 +3,7 @@ ghost use mathlib.Core.Path.{_≡_};
 ghost use Prim.Native.Nat.{_+_, _≤_, _<_};
 ghost use lib.ListN.{length};
 ghost use Rattle.lines.specs.Decimal.{digitCount, decimal};
-ghost use Rattle.lines.specs.Lines.{none, spaced, ownerBytes, usedBytes, PartPut};
+ghost use Rattle.lines.specs.Lines.{none, spaced, closed, usedBytes, PartPut};
 use rules::Used;
 
 fn digit_count(n: u64) -> usize
@@ -51,13 +51,13 @@ fn put_none(buffer: &mut [u8], at: usize) -> usize
     at + 2
 }
 
-// The owner and the letter behind it.
-fn put_owner(owner: u64, letter: u8, buffer: &mut [u8], at: usize) -> usize
+// One byte more behind it: an owner's letter, or the line feed.
+pub(crate) fn put_closed(n: u64, last: u8, buffer: &mut [u8], at: usize) -> usize
     requires { ⌜ at + 22 ≤ length (now buffer) ⌝ }
-    ensures { λ r. ⌜ PartPut (ownerBytes owner letter) 22 (now (buffer .entry)) at (now (buffer .exit)) r ⌝ }
+    ensures { λ r. ⌜ PartPut (closed n last) 22 (now (buffer .entry)) at (now (buffer .exit)) r ⌝ }
 {
-    let behind = put_spaced(owner, buffer, at);
-    buffer[behind] = letter;
+    let behind = put_spaced(n, buffer, at);
+    buffer[behind] = last;
     behind + 1
 }
 
@@ -68,15 +68,15 @@ pub(crate) fn put_used(used: Used, buffer: &mut [u8], at: usize) -> usize
     match used {
         Used::Own(i) => {
             let behind = put_spaced(i as u64, buffer, at);
-            put_owner(i as u64, b'o', buffer, behind)
+            put_closed(i as u64, b'o', buffer, behind)
         }
         Used::SpareOf(i, owner) => {
             let behind = put_spaced(i as u64, buffer, at);
-            put_owner(owner as u64, b's', buffer, behind)
+            put_closed(owner as u64, b's', buffer, behind)
         }
         Used::Burned(owner) => {
             let behind = put_none(buffer, at);
-            put_owner(owner as u64, b's', buffer, behind)
+            put_closed(owner as u64, b's', buffer, behind)
         }
         Used::Idle => {
             let behind = put_none(buffer, at);

@@ -41,11 +41,11 @@ chargeOf left last (burning owner d span) =
     record { ticks = min left span; guest = last; own = 0; lent = 0; spent = min left span; removed = removedBy (min left span) span; burned = min left span; idle = 0 }
 chargeOf left last nothing = record { ticks = left; guest = last; own = 0; lent = 0; spent = 0; removed = 0; burned = 0; idle = left }
 
--- steps 3 to 5 of a tick: what the chosen guest and the first spare, if there is any, make the next tick use
+-- steps 3 and 4 of a tick: what the chosen guest and the first spare, if there is any, make the next tick use
 abbrev pub NextTold : Chosen → SparePlace → Bool → Next → Type 0
 NextTold chosen first any r = portionOf r ≡ portion (pickOf chosen) (firstOf any first)
 
--- what is charged of the ticks left
+-- step 5, "The matching tally gains 1", for as many of the ticks left as stay on the portion
 abbrev pub ChargeTold : Next → ℕ → ℕ → Charge → Type 0
 ChargeTold next left last r = r ≡ chargeOf left last (portionOf next)
 

@@ -13,7 +13,8 @@ use borrow.Author.Tests.{leb-true, le-leb, lt-leb, ne-eqb}
 use Rattle.laws.proofs.Parts.{part-slice}
 use Rattle.laws.proofs.Cases.{and-both, and-intro, by-test}
 use Rattle.script.specs.declared.Number.{Number}
-use Rattle.script.specs.Numbers.{mostDigits, isDigit, digitsIn, valueIn, wellFormed, Got, none, got, numberAt, gotIn}
+use Rattle.laws.specs.Digits.{valueIn}
+use Rattle.script.specs.Numbers.{mostDigits, isDigit, digitsIn, wellFormed, Got, none, got, numberAt, gotIn}
 
 -- ---- a digit
 

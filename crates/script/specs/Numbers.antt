@@ -1,15 +1,17 @@
 -- A number on a line: "each after one space .. 1 to 13 digits and no leading zero unless it is 0".
 use mathlib.Core.Bool.{Bool, cond, not, _&&_, _||_}
 use mathlib.Core.List.{List, [], _∷_}
-use Prim.Native.Nat.{ℕ, suc, _+_, _-_, _*_}
+use Prim.Native.Nat.{ℕ, suc}
 use lib.Dec.{leb, eqb}
 use lib.ListN.{getD, take, drop}
+use Rattle.laws.specs.Digits.{valueIn}
 use Rattle.script.specs.declared.Number.{Number}
 
 -- "1 to 13 digits"
 abbrev pub mostDigits : ℕ
 mostDigits = 13
 
+-- `0` to `9`
 abbrev pub isDigit : ℕ → Bool
 isDigit b = leb 48 b && leb b 57
 
@@ -17,11 +19,6 @@ isDigit b = leb 48 b && leb b 57
 unfoldable pub digitsIn : List ℕ → ℕ
 digitsIn [] = 0
 digitsIn (b ∷ bs) = cond (isDigit b) (suc (digitsIn bs)) 0
-
--- the number that the digits make behind those of `value`
-unfoldable pub valueIn : ℕ → List ℕ → ℕ
-valueIn value [] = value
-valueIn value (b ∷ bs) = valueIn (value * 10 + (b - 48)) bs
 
 -- "1 to 13 digits and no leading zero unless it is 0"
 unfoldable pub wellFormed : List ℕ → Bool

@@ -18,6 +18,7 @@ abbrev pub ended : Got → Got
 ended none = none
 ended (got value rest) = cond (ends rest) (got value rest) none
 
+-- the number that stands there, if it ends the line
 unfoldable pub lastAt : List ℕ → Got
 unfolding numberAt
 lastAt bs = ended (numberAt bs)
@@ -27,6 +28,7 @@ abbrev pub guestEnd : ℕ → Got → Line
 guestEnd q none = Malformed
 guestEnd q (got t rest) = Guest q t
 
+-- two numbers, the second one at the line's end
 unfoldable pub guestLine : Got → Line
 unfolding lastAt
 guestLine none = Malformed
@@ -37,6 +39,7 @@ abbrev pub lineWith : ℕ → ℕ → Line
 lineWith letter value =
     cond (eqb letter 70) (Frame value) (cond (eqb letter 65) (Arrive value) (cond (eqb letter 68) (Done value) (cond (eqb letter 82) (Advance value) Malformed)))
 
+-- a letter and its one number
 abbrev pub oneLine : ℕ → Got → Line
 oneLine letter none = Malformed
 oneLine letter (got value rest) = lineWith letter value

@@ -5,7 +5,8 @@ ghost use Prim.Native.Nat.{_+_, _-_, _*_, _≤_, _<_};
 ghost use lib.ListN.{length, drop};
 ghost use lib.Seq.{slice};
 ghost use Rattle.script.specs.Script.{ends, lastAt, guestLine, lineWith, oneLine, LineTold};
-ghost use Rattle.script.specs.Numbers.{isDigit, digitsIn, valueIn, mostDigits, wellFormed, numberAt, gotIn};
+ghost use Rattle.laws.specs.Digits.{valueIn};
+ghost use Rattle.script.specs.Numbers.{isDigit, digitsIn, mostDigits, wellFormed, numberAt, gotIn};
 
 // What a line asks for; the letters are `F`, `G`, `A`, `D` and `R`.
 pub enum Line {

@@ -12,8 +12,8 @@ enum-known-used c = search needs
 put-spaced-requires : tie.Need-put-spaced-requires
 put-spaced-requires c κs = search needs
 
-put-owner-requires : tie.Need-put-owner-requires
-put-owner-requires c κs = search needs
+put-closed-requires : tie.Need-put-closed-requires
+put-closed-requires c κs = search needs
 
 enum-known-used-2 : tie.Need-enum-known-used-2
 enum-known-used-2 c = search needs
@@ -21,8 +21,8 @@ enum-known-used-2 c = search needs
 put-spaced-requires-2 : tie.Need-put-spaced-requires-2
 put-spaced-requires-2 c κs = search needs
 
-put-owner-requires-2 : tie.Need-put-owner-requires-2
-put-owner-requires-2 c κs = search needs
+put-closed-requires-2 : tie.Need-put-closed-requires-2
+put-closed-requires-2 c κs = search needs
 
 enum-known-used-3 : tie.Need-enum-known-used-3
 enum-known-used-3 c = search needs
@@ -30,8 +30,8 @@ enum-known-used-3 c = search needs
 put-none-requires : tie.Need-put-none-requires
 put-none-requires c κs = search needs
 
-put-owner-requires-3 : tie.Need-put-owner-requires-3
-put-owner-requires-3 c κs = search needs
+put-closed-requires-3 : tie.Need-put-closed-requires-3
+put-closed-requires-3 c κs = search needs
 
 enum-told : tie.Need-enum-told
 enum-told c = search needs
@@ -50,7 +50,7 @@ unfolding usedBytes
 returns c =
     let second = c .before .before in
     let first = second .before .before .before .before in
-    rw (first .before .before .before .used .given .1) (part-on (first .put-spaced .ensures) (second .put-owner .ensures))
+    rw (first .before .before .before .used .given .1) (part-on (first .put-spaced .ensures) (second .put-closed .ensures))
 
 same-length-2 : tie.Need-same-length-2
 same-length-2 c = search needs
@@ -60,7 +60,7 @@ unfolding usedBytes
 returns-2 c =
     let second = c .before .before in
     let first = second .before .before .before .before in
-    rw (first .before .before .before .used2 .given .1) (part-on (first .put-spaced2 .ensures) (second .put-owner2 .ensures))
+    rw (first .before .before .before .used2 .given .1) (part-on (first .put-spaced2 .ensures) (second .put-closed2 .ensures))
 
 same-length-3 : tie.Need-same-length-3
 same-length-3 c = search needs
@@ -70,7 +70,7 @@ unfolding usedBytes
 returns-3 c =
     let second = c .before .before in
     let first = second .before .before .before .before in
-    rw (first .before .before .before .used3 .given .1) (part-within (omega arith) (part-on (first .put-none .ensures) (second .put-owner3 .ensures)))
+    rw (first .before .before .before .used3 .given .1) (part-within (omega arith) (part-on (first .put-none .ensures) (second .put-closed3 .ensures)))
 
 same-length-4 : tie.Need-same-length-4
 same-length-4 c = search needs
@@ -88,13 +88,13 @@ put-used-spec =
     (tie.spec
     enum-known-used
     put-spaced-requires
-    put-owner-requires
+    put-closed-requires
     enum-known-used-2
     put-spaced-requires-2
-    put-owner-requires-2
+    put-closed-requires-2
     enum-known-used-3
     put-none-requires
-    put-owner-requires-3
+    put-closed-requires-3
     enum-told
     put-none-requires-2
     put-none-requires-3

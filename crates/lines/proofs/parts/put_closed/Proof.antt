@@ -1,9 +1,9 @@
--- `lines::parts::put_owner` meets its contract: the letter stands behind the owner.
+-- `lines::parts::put_closed` meets its contract: the byte stands behind the number.
 use native.Mathlib.Omega.{arith}
 use Rattle.lines.proofs.Putting.{part-byte, part-on}
 use borrow.Author.Needs.{needs}
-use Rattle.lines.proofs.parts.put_owner.Statement.{statement}
-use Rattle.lines.proofs.parts.put_owner.Tie as tie
+use Rattle.lines.proofs.parts.put_closed.Statement.{statement}
+use Rattle.lines.proofs.parts.put_closed.Tie as tie
 
 put-spaced-requires : tie.Need-put-spaced-requires
 put-spaced-requires c κs = search needs
@@ -19,10 +19,10 @@ same-length c = search needs
 
 returns : tie.Need-returns
 returns c =
-    let owner = c .before .before in
-    let a = owner .before .before .before .args in
-    part-on (owner .put-spaced .ensures) (part-byte (a .letter) _ (owner .put-spaced .result) (omega arith))
+    let number = c .before .before in
+    let a = number .before .before .before .args in
+    part-on (number .put-spaced .ensures) (part-byte (a .last) _ (number .put-spaced .result) (omega arith))
 
-pub put-owner-spec : {M : Type 1} → statement M
-put-owner-spec =
+pub put-closed-spec : {M : Type 1} → statement M
+put-closed-spec =
     tie.close (tie.spec put-spaced-requires slice-write-buffer add-result same-length returns)
