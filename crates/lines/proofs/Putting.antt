@@ -74,11 +74,11 @@ module _ (room long filled : ℕ) where
 
 -- ---- the whole line
 
-module _ (buffer : List ℕ) (filled : ℕ) {room : Bool} (told : room ≡ hasRoom buffer filled) where
+module _ (buffer : List ℕ) (filled : ℕ) {room : Bool} (told : room ≡ hasRoom lineRoom buffer filled) where
   -- without room nothing is put
   pub line-kept : not room ≡ true → (bytes : List ℕ) → LinePut bytes buffer filled buffer filled
   line-kept e bytes =
-      let none : hasRoom buffer filled ≡ false = sym told ∙ not-true room e in
+      let none : hasRoom lineRoom buffer filled ≡ false = sym told ∙ not-true room e in
       record { content = rw none refl; holds = rw none refl; short = omega arith }
 
   module _ (e : not room ≡ false) where
@@ -88,10 +88,10 @@ module _ (buffer : List ℕ) (filled : ℕ) {room : Bool} (told : room ≡ hasRo
     -- with room all of it is
     pub line-put : {bytes after : List ℕ} {r : ℕ} → PartPut bytes lineRoom buffer filled after r → LinePut bytes buffer filled after r
     line-put p =
-        let some : hasRoom buffer filled ≡ true = sym told ∙ not-false room e in
+        let some : hasRoom lineRoom buffer filled ≡ true = sym told ∙ not-false room e in
         record { content = rw some (p .content); holds = rw some (p .behind); short = omega (arith, p .behind, p .short) }
 
 -- with room or without, the buffer is as long as before
 pub line-long : {bytes buffer after : List ℕ} {filled r : ℕ} → LinePut bytes buffer filled after r → length after ≡ length buffer
 line-long {bytes} {buffer} {filled = filled} l =
-    ap length (l .content) ∙ by-test (λ t. length (cond t (sets buffer filled bytes) buffer) ≡ length buffer) (hasRoom buffer filled) (λ _. length-sets buffer filled bytes) (λ _. refl)
+    ap length (l .content) ∙ by-test (λ t. length (cond t (sets buffer filled bytes) buffer) ≡ length buffer) (hasRoom lineRoom buffer filled) (λ _. length-sets buffer filled bytes) (λ _. refl)

@@ -51,14 +51,18 @@ endBytes tick = 101 ∷ 110 ∷ 100 ∷ spaced tick ++ (10 ∷ [])
 abbrev pub lineRoom : ℕ
 lineRoom = 85
 
--- a line has room behind the bytes that the buffer holds
-abbrev pub hasRoom : List ℕ → ℕ → Bool
-hasRoom buffer filled = leb (filled + lineRoom) (length buffer)
+-- so many bytes have room behind those that the buffer holds
+abbrev pub hasRoom : ℕ → List ℕ → ℕ → Bool
+hasRoom room buffer filled = leb (filled + room) (length buffer)
+
+-- whether they have in one that is so long
+abbrev pub RoomTold : ℕ → ℕ → ℕ → Bool → Type 0
+RoomTold long filled room r = r ≡ leb (filled + room) long
 
 -- a line put behind them: the whole buffer's content, and how many bytes it holds then; without room nothing is put
 pub record LinePut (bytes buffer : List ℕ) (filled : ℕ) (after : List ℕ) (r : ℕ) : Type 0 where
-  pub content : after ≡ cond (hasRoom buffer filled) (sets buffer filled bytes) buffer
-  pub holds : r ≡ cond (hasRoom buffer filled) (filled + length bytes) filled
+  pub content : after ≡ cond (hasRoom lineRoom buffer filled) (sets buffer filled bytes) buffer
+  pub holds : r ≡ cond (hasRoom lineRoom buffer filled) (filled + length bytes) filled
   pub short : r ≤ filled + lineRoom
 
 -- a part of a line put at a place with room for `most` bytes: what the buffer holds then, and the place behind the part
@@ -67,8 +71,9 @@ pub record PartPut (bytes : List ℕ) (most : ℕ) (buffer : List ℕ) (at : ℕ
   pub behind : r ≡ at + length bytes
   pub short : length bytes ≤ most
 
--- any two outcomes that the predicate allows are equal
-abbrev pub OneOutcome : Type 0
-OneOutcome =
-    (bytes buffer : List ℕ) (filled : ℕ) (after after′ : List ℕ) (r r′ : ℕ)
-    → LinePut bytes buffer filled after r → LinePut bytes buffer filled after′ r′ → (after ≡ after′) × (r ≡ r′)
+-- any two outcomes that the predicates allow are equal
+pub record OneOutcome : Type 0 where
+  pub room : (long filled room : ℕ) (r r′ : Bool) → RoomTold long filled room r → RoomTold long filled room r′ → r ≡ r′
+  pub line :
+      (bytes buffer : List ℕ) (filled : ℕ) (after after′ : List ℕ) (r r′ : ℕ)
+      → LinePut bytes buffer filled after r → LinePut bytes buffer filled after′ r′ → (after ≡ after′) × (r ≡ r′)

@@ -1,8 +1,5 @@
 // The lines of the listing, put into a lent buffer behind what it holds: a portion, a refusal, the end.
-ghost use mathlib.Core.Path.{_≡_};
-ghost use Prim.Native.Nat.{_+_};
-ghost use lib.Dec.{leb};
-ghost use Rattle.lines.specs.Lines.{LinePut, portionBytes, refusalBytes, endBytes, lineRoom};
+ghost use Rattle.lines.specs.Lines.{RoomTold, LinePut, portionBytes, refusalBytes, endBytes};
 use crate::parts::put_closed;
 use crate::parts::put_number;
 use crate::parts::put_spaced;
@@ -14,20 +11,20 @@ mod parts;
 // No line takes more bytes, whatever its numbers.
 pub const LINE_ROOM: usize = 85;
 
-// The sum of filled and the room is not made, because it could wrap.
-fn has_room(length: usize, filled: usize) -> bool
-    ensures { λ r. ⌜ r ≡ leb (filled + lineRoom) length ⌝ }
+// Whether so many bytes have room in a buffer of this length. The sum of filled and the room is not made, because it could wrap.
+pub fn has_room(length: usize, filled: usize, room: usize) -> bool
+    ensures { λ r. ⌜ RoomTold length filled room r ⌝ }
 {
-    if length < LINE_ROOM {
+    if length < room {
         return false;
     }
-    filled <= length - LINE_ROOM
+    filled <= length - room
 }
 
 pub fn put_portion(p: Portion, buffer: &mut [u8], filled: usize) -> usize
     ensures { λ r. ⌜ LinePut (portionBytes p) (now (buffer .entry)) filled (now (buffer .exit)) r ⌝ }
 {
-    if !has_room(buffer.len(), filled) {
+    if !has_room(buffer.len(), filled, LINE_ROOM) {
         return filled;
     }
     let first = put_number(p.first, buffer, filled);
@@ -41,7 +38,7 @@ pub fn put_portion(p: Portion, buffer: &mut [u8], filled: usize) -> usize
 pub fn put_refusal(number: u64, buffer: &mut [u8], filled: usize) -> usize
     ensures { λ r. ⌜ LinePut (refusalBytes number) (now (buffer .entry)) filled (now (buffer .exit)) r ⌝ }
 {
-    if !has_room(buffer.len(), filled) {
+    if !has_room(buffer.len(), filled, LINE_ROOM) {
         return filled;
     }
     buffer[filled] = b'!';
@@ -51,7 +48,7 @@ pub fn put_refusal(number: u64, buffer: &mut [u8], filled: usize) -> usize
 pub fn put_end(tick: u64, buffer: &mut [u8], filled: usize) -> usize
     ensures { λ r. ⌜ LinePut (endBytes tick) (now (buffer .entry)) filled (now (buffer .exit)) r ⌝ }
 {
-    if !has_room(buffer.len(), filled) {
+    if !has_room(buffer.len(), filled, LINE_ROOM) {
         return filled;
     }
     buffer[filled] = b'e';

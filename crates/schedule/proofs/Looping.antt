@@ -2,13 +2,13 @@
 use mathlib.Core.Path.{_≡_, refl, sym, ap, _∙_}
 use mathlib.Core.Bool.{Bool, true, false, _&&_, false≢true}
 use mathlib.Core.List.{List, _++_}
-use Prim.Native.Nat.{ℕ, suc, _+_, _-_, _≤_, _<_}
+use Prim.Native.Nat.{ℕ, suc, _+_, _≤_, _<_}
 use native.Mathlib.Omega.{arith}
-use lib.Dec.{leb}
 use lib.ListN.{length, take, drop, length-append}
 use lib.Seq.{sets, sets-eq, take-at, length-take-le}
 use borrow.Author.Tests.{leb-true}
 use Rattle.laws.proofs.Cases.{and-both}
+use Rattle.lines.specs.Lines.{RoomTold}
 use Rattle.listing.specs.declared.Held.{Held}
 use Rattle.listing.specs.declared.Stepped.{Stepped}
 use Rattle.listing.specs.Stepping.{putOf, heldOf, stepOf, goesOn, toGo, stepRoom, putOut, heldAfter, Begun, GoingTold, Stepping}
@@ -76,19 +76,19 @@ module _ {input before : List ℕ} {from : Held} {buffer : List ℕ} {held : Hel
         let same : putOut (w .steps) input from ++ out ≡ putOut (suc (w .steps)) input from = ap (λ (h : Held). putOut (w .steps) input from ++ putOf (stepOf input h)) (w .reached) ∙ sym (put-more (w .steps) input from) in
         front ∙ ap (λ (x : List ℕ). x ++ out) (w .bytes) ∙ same
 
-    pub filling-inside : r .filled ≤ length after
+    filling-inside : r .filled ≤ length after
     filling-inside = omega (arith, s .short, some, stepping-long s)
 
-    pub filling-more : {more : Bool} → GoingTold (r .held .stage) more → Filling input before from after (r .held) (r .filled) (more && leb stepRoom (length after - r .filled))
-    filling-more {more} t =
+    pub filling-more : {more room : Bool} → GoingTold (r .held .stage) more → RoomTold (length after) (r .filled) stepRoom room → Filling input before from after (r .held) (r .filled) (more && room)
+    filling-more {more} {room} t told =
         record {
           long = stepping-long s ∙ w .long;
           inside = omega (arith, filling-inside, stepping-long s, w .long);
           steps = suc (w .steps);
           reached = filling-reached;
           bytes = filling-bytes;
-          goes = λ e. sym (t .answer) ∙ and-both more (leb stepRoom (length after - r .filled)) e .0;
-          room = λ e. omega (arith, leb-true stepRoom (length after - r .filled) (and-both more (leb stepRoom (length after - r .filled)) e .1), stepping-long s, w .long);
+          goes = λ e. sym (t .answer) ∙ and-both more room e .0;
+          room = λ e. omega (arith, leb-true (r .filled + stepRoom) (length after) (sym told ∙ and-both more room e .1), stepping-long s, w .long);
           within = omega (arith, filling-less, w .within);
           less = λ f e. omega (arith, filling-less, w .within);
         }

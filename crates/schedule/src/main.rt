@@ -29,7 +29,7 @@ fn fill(input: &[u8], from: Held, buffer: &mut [u8]) -> Stepped
         filled = stepped.filled;
         let stage = next.stage;
         let more = listing::is_going(stage);
-        let room = STEP_ROOM <= buffer.len() - filled;
+        let room = lines::has_room(buffer.len(), filled, STEP_ROOM);
         going = more & room;
     }
     Stepped { held, filled }

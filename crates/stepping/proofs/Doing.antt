@@ -43,7 +43,7 @@ pub did-nothing : (buffer : List ℕ) (filled : ℕ) {s : Step} {held : Held} �
 did-nothing buffer filled e = rw e (record { held = refl; holds = omega arith; content = refl; short = omega arith })
 
 module _ {bytes buffer after : List ℕ} {filled r : ℕ} (l : LinePut bytes buffer filled after r) (h : filled + lineRoom ≤ length buffer) where
-  some-room : hasRoom buffer filled ≡ true
+  some-room : hasRoom lineRoom buffer filled ≡ true
   some-room = le-leb (filled + lineRoom) (length buffer) h
 
   pub line-holds : r ≡ filled + length bytes

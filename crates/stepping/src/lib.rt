@@ -1,8 +1,5 @@
 // One step of the program: it takes the input and what is held, puts out some bytes and gives what is held next.
-ghost use mathlib.Core.Path.{_≡_};
-ghost use Prim.Native.Nat.{_+_};
-ghost use lib.Dec.{leb};
-ghost use Rattle.listing.specs.Stepping.{Stepping, stepRoom};
+ghost use Rattle.listing.specs.Stepping.{Stepping};
 use crate::commands::command_step;
 use crate::tables::frame_step;
 use crate::tables::guest_step;
@@ -20,20 +17,10 @@ mod tables;
 // A step puts out at most the portions of one walk.
 pub const STEP_ROOM: usize = PORTION_PLACES * LINE_ROOM;
 
-// The sum of filled and the room is not made, because it could wrap.
-fn may_step(length: usize, filled: usize) -> bool
-    ensures { λ r. ⌜ r ≡ leb (filled + stepRoom) length ⌝ }
-{
-    if length < STEP_ROOM {
-        return false;
-    }
-    filled <= length - STEP_ROOM
-}
-
 pub fn step(input: &[u8], h: Held, buffer: &mut [u8], filled: usize) -> Stepped
     ensures { λ r. ⌜ Stepping (now (input .entry)) h (now (buffer .entry)) filled (now (buffer .exit)) r ⌝ }
 {
-    if !may_step(buffer.len(), filled) {
+    if !lines::has_room(buffer.len(), filled, STEP_ROOM) {
         return Stepped { held: h, filled };
     }
     let stage = h.stage;

@@ -1,7 +1,7 @@
 -- `schedule::fill` meets its contract: at each turn so many steps were made, and their bytes stand at the buffer's front.
 use denote.Ref.{now}
 use Rattle.listing.specs.Stepping.{toGo}
-use Rattle.schedule.proofs.Looping.{Filling, filling-start, filling-end, filling-less, filling-inside, filling-more}
+use Rattle.schedule.proofs.Looping.{Filling, filling-start, filling-end, filling-less, filling-more}
 use borrow.Author.Needs.{needs}
 use Rattle.schedule.proofs.fill.Statement.{statement}
 use Rattle.schedule.proofs.fill.Tie as tie
@@ -26,23 +26,20 @@ step-requires c κs = search needs
 is-going-requires-2 : tie.Need-is-going-requires-2 Inv-loop μ-loop
 is-going-requires-2 c κs = search needs
 
-sub-room : tie.Need-sub-room Inv-loop μ-loop
-sub-room c =
-    let step = c .before .before .before .before in
-    let l = step .before .before in
-    filling-inside (l .before .loop .inv) (l .loop-test .taken) (step .step .ensures)
+has-room-requires : tie.Need-has-room-requires Inv-loop μ-loop
+has-room-requires c κs = search needs
 
 loop-less : tie.Need-loop-less Inv-loop μ-loop
 loop-less c =
-    let step = c .before .before .before .before in
+    let step = c .before .before .before .before .before in
     let l = step .before .before in
     filling-less (l .before .loop .inv) (l .loop-test .taken) (step .step .ensures)
 
 loop-again : tie.Need-loop-again Inv-loop μ-loop
 loop-again c =
-    let step = c .before .before .before .before in
+    let step = c .before .before .before .before .before in
     let l = step .before .before in
-    filling-more (l .before .loop .inv) (l .loop-test .taken) (step .step .ensures) (c .is-going2 .ensures)
+    filling-more (l .before .loop .inv) (l .loop-test .taken) (step .step .ensures) (c .before .is-going2 .ensures) (c .has-room .ensures)
 
 same-length : tie.Need-same-length Inv-loop μ-loop
 same-length c = c .before .loop .inv .long
@@ -60,7 +57,7 @@ fill-spec =
     loop-holds
     step-requires
     is-going-requires-2
-    sub-room
+    has-room-requires
     loop-less
     loop-again
     same-length

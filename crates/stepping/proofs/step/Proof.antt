@@ -20,7 +20,7 @@ room : (c : tie.Else1) → let a = c .before .before .before .before .args in a 
 room c =
     let may = c .before in
     let a = may .before .before .before .args in
-    step-room (now (a .input)) (a .h) (now (a .buffer)) (a .filled) (may .may-step .ensures) (c .if1 .left)
+    step-room (now (a .input)) (a .h) (now (a .buffer)) (a .filled) (may .has-room .ensures) (c .if1 .left)
 
 -- and the step of the stage that is held is the step
 made : {after : List ℕ} {r : Stepped} (c : tie.Else1) (stage : Stage) → let a = c .before .before .before .before .args in a .h .stage ≡ stage → Did (stepIn stage (now (a .input)) (a .h)) (now (a .buffer)) (a .filled) after r
@@ -28,16 +28,16 @@ made : {after : List ℕ} {r : Stepped} (c : tie.Else1) (stage : Stage) → let 
 made c stage e d =
     let may = c .before in
     let a = may .before .before .before .args in
-    step-done (now (a .input)) (a .h) (now (a .buffer)) (a .filled) (may .may-step .ensures) (c .if1 .left) stage e d
+    step-done (now (a .input)) (a .h) (now (a .buffer)) (a .filled) (may .has-room .ensures) (c .if1 .left) stage e d
 
-may-step-requires : tie.Need-may-step-requires
-may-step-requires c κs = search needs
+has-room-requires : tie.Need-has-room-requires
+has-room-requires c κs = search needs
 
 returns : tie.Need-returns
 returns c =
     let may = c .before in
     let a = may .before .before .before .args in
-    step-kept (now (a .input)) (a .h) (now (a .buffer)) (a .filled) (may .may-step .ensures) (c .if1 .taken)
+    step-kept (now (a .input)) (a .h) (now (a .buffer)) (a .filled) (may .has-room .ensures) (c .if1 .taken)
 
 enum-told : tie.Need-enum-told
 enum-told c = search needs
@@ -96,7 +96,7 @@ pub step-spec : {M : Type 1} → statement M
 step-spec =
     tie.close
     (tie.spec
-    may-step-requires
+    has-room-requires
     returns
     enum-told
     frame-step-requires
