@@ -136,10 +136,10 @@ pub record Numbers (image : List ℕ) (t : Trailer) : Type 0 where
 pub numbers-of : (image : List ℕ) (t : Trailer) → shortestImage ≤ length image → TrailerRead image t → Numbers image t
 numbers-of image t h r =
     record {
-      frame = r .frame ∙ number-in image 4 (trailerAt image) (omega arith);
-      offset = r .offset ∙ number-in image 4 (trailerAt image + 4) (omega arith);
-      count = r .count ∙ number-in image 2 (trailerAt image + 8) (omega arith);
-      edition = r .edition ∙ number-in image 2 (trailerAt image + 10) (omega arith);
+      frame = r .frame .0 ∙ number-in image 4 (trailerAt image) (omega arith);
+      offset = r .offset .0 ∙ number-in image 4 (trailerAt image + 4) (omega arith);
+      count = r .count .0 ∙ number-in image 2 (trailerAt image + 8) (omega arith);
+      edition = r .edition .0 ∙ number-in image 2 (trailerAt image + 10) (omega arith);
     }
 
 -- the part between the offset and the trailer is the entries' own

@@ -1,4 +1,5 @@
 -- Laws of numbers in bytes, and the steps of the walks over a reader.
+pub mod Asking
 pub mod Laws
 pub mod Told
 pub mod Walks

@@ -11,6 +11,6 @@ trailer-same f o c e = rw (f, o, c, e) refl
 pub one-answer : OneAnswer
 one-answer =
     record {
-      word = λ bytes at a b p q. p .0 ∙ sym (q .0);
-      trailer = λ image a b p q. trailer-same (p .frame ∙ sym (q .frame)) (p .offset ∙ sym (q .offset)) (p .count ∙ sym (q .count)) (p .edition ∙ sym (q .edition));
+      number = λ width bytes at a b p q. p .0 ∙ sym (q .0);
+      trailer = λ image a b p q. trailer-same (p .frame .0 ∙ sym (q .frame .0)) (p .offset .0 ∙ sym (q .offset .0)) (p .count .0 ∙ sym (q .count .0)) (p .edition .0 ∙ sym (q .edition .0));
     }

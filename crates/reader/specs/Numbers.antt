@@ -2,7 +2,7 @@
 use mathlib.Core.Path.{_≡_}
 use mathlib.Core.Bool.{cond}
 use mathlib.Core.List.{List}
-use Prim.Native.Nat.{ℕ, _+_, _-_, _<_, _^_}
+use Prim.Native.Nat.{ℕ, _+_, _-_, _*_, _<_, _^_}
 use lib.Dec.{leb}
 use lib.ListN.{length}
 use Rattle.rules.specs.Image.{field, trailerAt}
@@ -16,22 +16,18 @@ numberAt width at bytes = cond (leb (at + width) (length bytes)) (field width at
 unfoldable pub behindOf : ℕ → ℕ → ℕ
 behindOf at width = cond (leb (at + width) (2 ^ 64 - 1)) (at + width) (2 ^ 64 - 1)
 
--- the number in the 4 bytes at a place
-abbrev pub WordRead : List ℕ → ℕ → ℕ → Type 0
-WordRead bytes at r = (r ≡ numberAt 4 at bytes) × (r < 2 ^ 32)
+-- the number in `width` bytes at a place, which is not too large for them
+abbrev pub NumberRead : ℕ → List ℕ → ℕ → ℕ → Type 0
+NumberRead width bytes at r = (r ≡ numberAt width at bytes) × (r < 2 ^ (8 * width))
 
 -- the four numbers of the trailer, one behind the other
 pub record TrailerRead (image : List ℕ) (t : Trailer) : Type 0 where
-  pub frame : t .frame ≡ numberAt 4 (trailerAt image) image
-  pub offset : t .offset ≡ numberAt 4 (trailerAt image + 4) image
-  pub count : t .count ≡ numberAt 2 (trailerAt image + 8) image
-  pub edition : t .edition ≡ numberAt 2 (trailerAt image + 10) image
-  pub frame-low : t .frame < 2 ^ 32
-  pub offset-low : t .offset < 2 ^ 32
-  pub count-low : t .count < 2 ^ 16
-  pub edition-low : t .edition < 2 ^ 16
+  pub frame : NumberRead 4 image (trailerAt image) (t .frame)
+  pub offset : NumberRead 4 image (trailerAt image + 4) (t .offset)
+  pub count : NumberRead 2 image (trailerAt image + 8) (t .count)
+  pub edition : NumberRead 2 image (trailerAt image + 10) (t .edition)
 
 -- any two answers that a predicate allows are equal
 pub record OneAnswer : Type 0 where
-  pub word : (bytes : List ℕ) (at a b : ℕ) → WordRead bytes at a → WordRead bytes at b → a ≡ b
+  pub number : (width : ℕ) (bytes : List ℕ) (at a b : ℕ) → NumberRead width bytes at a → NumberRead width bytes at b → a ≡ b
   pub trailer : (image : List ℕ) (a b : Trailer) → TrailerRead image a → TrailerRead image b → a ≡ b

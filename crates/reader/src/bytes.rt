@@ -1,7 +1,7 @@
 // Little-endian numbers of a slice of bytes.
 ghost use mathlib.Core.Path.{_≡_};
 ghost use Prim.Native.Nat.{_<_, _^_};
-ghost use Rattle.reader.specs.Numbers.{numberAt};
+ghost use Rattle.reader.specs.Numbers.{NumberRead};
 
 // A byte as a number: the bound stands in the contract, so that no caller proves a cast.
 fn wide(byte: u8) -> usize
@@ -12,7 +12,7 @@ fn wide(byte: u8) -> usize
 
 // The number in 2 bytes at a place, or 0 where they run past the end.
 pub(crate) fn half_at(bytes: &[u8], at: usize) -> usize
-    ensures { λ r. ⌜ (r ≡ numberAt 2 at (now (bytes .entry))) × (r < 2 ^ 16) ⌝ }
+    ensures { λ r. ⌜ NumberRead 2 (now (bytes .entry)) at r ⌝ }
 {
     if bytes.len() < 2 {
         return 0;

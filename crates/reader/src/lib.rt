@@ -1,5 +1,5 @@
 // Numbers of an image and of its trailer, for every image and every place.
-ghost use Rattle.reader.specs.Numbers.{WordRead, TrailerRead};
+ghost use Rattle.reader.specs.Numbers.{NumberRead, TrailerRead};
 use crate::bytes::half_at;
 use crate::reader::half;
 use crate::reader::open;
@@ -20,7 +20,7 @@ pub struct Trailer {
 
 // The number in 4 bytes at a place, or 0 where they run past the end.
 pub fn word_at(bytes: &[u8], at: usize) -> usize
-    ensures { λ r. ⌜ WordRead (now (bytes .entry)) at r ⌝ }
+    ensures { λ r. ⌜ NumberRead 4 (now (bytes .entry)) at r ⌝ }
 {
     if bytes.len() < 4 {
         return 0;

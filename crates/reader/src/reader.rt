@@ -2,7 +2,7 @@
 ghost use mathlib.Core.Path.{_≡_};
 ghost use Prim.Native.Nat.{_+_, _<_, _^_};
 ghost use Rattle.rules.specs.Image.{trailerAt};
-ghost use Rattle.reader.specs.Numbers.{numberAt, behindOf};
+ghost use Rattle.reader.specs.Numbers.{behindOf, NumberRead};
 use crate::bytes::half_at;
 use crate::word_at;
 
@@ -47,14 +47,14 @@ pub(crate) fn open<'a>(image: &'a [u8], at: usize) -> Reader<'a>
 
 // The number in the 4 bytes at the reader's place.
 pub(crate) fn word<'a>(reader: Reader<'a>) -> usize
-    ensures { λ n. ⌜ (n ≡ numberAt 4 (reader .entry .at) (now (reader .entry .image))) × (n < 2 ^ 32) ⌝ }
+    ensures { λ n. ⌜ NumberRead 4 (now (reader .entry .image)) (reader .entry .at) n ⌝ }
 {
     word_at(reader.image, reader.at)
 }
 
 // The number in the 2 bytes at the reader's place.
 pub(crate) fn half<'a>(reader: Reader<'a>) -> usize
-    ensures { λ n. ⌜ (n ≡ numberAt 2 (reader .entry .at) (now (reader .entry .image))) × (n < 2 ^ 16) ⌝ }
+    ensures { λ n. ⌜ NumberRead 2 (now (reader .entry .image)) (reader .entry .at) n ⌝ }
 {
     half_at(reader.image, reader.at)
 }

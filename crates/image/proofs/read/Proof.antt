@@ -91,7 +91,7 @@ loaded-requires c κs =
       count = n .count;
       few = omega arith;
       ends = omega arith;
-      frame-low = r .ensures .frame-low;
+      frame-low = r .ensures .frame .1;
     }
 
 returns-7 : tie.Need-returns-7

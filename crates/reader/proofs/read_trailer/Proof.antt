@@ -41,7 +41,7 @@ use denote.Triple.Walked.{says, Stays, stay-none-slice, walkOf, goes-none-slice,
 use denote.Exit.{yes}
 use denote.Triple.Clauses.{lasts}
 use Rattle.rules.specs.Image.{trailerAt}
-use Rattle.reader.specs.Numbers.{numberAt, behindOf, TrailerRead}
+use Rattle.reader.specs.Numbers.{numberAt, behindOf, NumberRead, TrailerRead}
 use Rattle.reader.specs.declared.reader.Reader.{Reader}
 use Rattle.reader.specs.declared.Trailer.{Trailer}
 use Rattle.reader.proofs.Walks.{B, token, held, enters, passes, passes-copy, passes-number, hears}
@@ -94,8 +94,8 @@ module _ {M : Type 1} (𝓤 : URA M) (H : Heap 𝓤) (A : Atoms 𝓤) (mem : Mem
   Past = tripleOf 𝓤 H A past.signature (past.spec 𝓤 H A mem run)
 
 -- what `word` and `half` say of their result t, and `past` of its own, r′
-abbrev Number : ℕ → ℕ → Reader → ℕ → Type 0
-Number width bits r t = (t ≡ numberAt width (r .at) (now (r .image))) × (t < 2 ^ bits)
+abbrev Number : ℕ → Reader → ℕ → Type 0
+Number width r = NumberRead width (now (r .image)) (r .at)
 
 abbrev Moved : Reader → ℕ → Reader → Type 0
 Moved r width r′ = (r′ .image ≡ r .image) × (r′ .at ≡ behindOf (r .at) width)
@@ -109,30 +109,26 @@ module _ (s : RefT (List ℕ)) where
   At r at = (r .image ≡ s) × (r .at ≡ at)
 
   -- so a reader that stands at a place of s reads the number there, and moves on to the place behind it
-  number : (width at : ℕ) (r : Reader) {t : ℕ} → At r at → t ≡ numberAt width (r .at) (now (r .image)) → t ≡ numberAt width at (now s)
-  number width at r h e = e ∙ ap₂ (λ (x : RefT (List ℕ)) (n : ℕ). numberAt width n (now x)) (h .0) (h .1)
+  number : (width at : ℕ) (r : Reader) {t : ℕ} → At r at → Number width r t → NumberRead width (now s) at t
+  number width at r h e = (e .0 ∙ ap₂ (λ (x : RefT (List ℕ)) (n : ℕ). numberAt width n (now x)) (h .0) (h .1), e .1)
 
   moved : (at width next : ℕ) (r r′ : Reader) → at + width < 2 ^ 64 → at + width ≡ next → At r at → Moved r width r′ → At r′ next
   moved at width next r r′ fits e h f = (f .0 ∙ h .0, f .1 ∙ ap (λ (n : ℕ). behindOf n width) (h .1) ∙ sym (behind-in at width fits) ∙ e)
 
   module _ (p : ℕ) (e₀ : Starts p) (r₁ r₂ r₃ r₄ : Reader) (m₁ : At r₁ p) (m₂ : Moved r₁ 4 r₂) (m₃ : Moved r₂ 4 r₃) (m₄ : Moved r₃ 2 r₄) where
-    all-read : {t₁ t₂ t₃ t₄ : ℕ} → Number 4 32 r₁ t₁ → Number 4 32 r₂ t₂ → Number 2 16 r₃ t₃ → Number 2 16 r₄ t₄
+    all-read : {t₁ t₂ t₃ t₄ : ℕ} → Number 4 r₁ t₁ → Number 4 r₂ t₂ → Number 2 r₃ t₃ → Number 2 r₄ t₄
         → TrailerRead (now s) (record { frame = t₁; offset = t₂; count = t₃; edition = t₄ })
-    all-read e₁ e₂ e₃ e₄ =
+    all-read {t₁} {t₂} {t₃} {t₄} e₁ e₂ e₃ e₄ =
         let at = trailerAt (now s) in
         let h₁ : At r₁ at = (m₁ .0, m₁ .1 ∙ e₀ .0) in
         let h₂ = moved at 4 (at + 4) r₁ r₂ (omega (arith, e₀)) (omega arith) h₁ m₂ in
         let h₃ = moved (at + 4) 4 (at + 8) r₂ r₃ (omega (arith, e₀)) (omega arith) h₂ m₃ in
         let h₄ = moved (at + 8) 2 (at + 10) r₃ r₄ (omega (arith, e₀)) (omega arith) h₃ m₄ in
         record {
-          frame = number 4 at r₁ h₁ (e₁ .0);
-          offset = number 4 (at + 4) r₂ h₂ (e₂ .0);
-          count = number 2 (at + 8) r₃ h₃ (e₃ .0);
-          edition = number 2 (at + 10) r₄ h₄ (e₄ .0);
-          frame-low = e₁ .1;
-          offset-low = e₂ .1;
-          count-low = e₃ .1;
-          edition-low = e₄ .1;
+          frame = number 4 at r₁ h₁ e₁;
+          offset = number 4 (at + 4) r₂ h₂ e₂;
+          count = number 2 (at + 8) r₃ h₃ e₃;
+          edition = number 2 (at + 10) r₄ h₄ e₄;
         }
 
 module _ {M : Type 1} (𝓤 : URA M) (H : Heap 𝓤) (A : Atoms 𝓤) (W : Given 𝓤 H A) (mem : Memory → SProp 𝓤) (run : Routine → Fun 𝓤) (κ : Lft) (q : Share) (s : RefT (List ℕ)) where
@@ -190,7 +186,7 @@ module _ {M : Type 1} (𝓤 : URA M) (H : Heap 𝓤) (A : Atoms 𝓤) (W : Given
         -- frame; [what the reader owns; the token; what s owns; room for _17; …]
         assigns ! (of-opd ! (load ! (from ! (stop !)) (look ! 33 refl))) (from ! (stop !)) (init ! 15 refl (held W κ r₁ u₁ is₁)) $
         passes-copy W κ ! r₁ u₁ $
-        calls-at ! fm (Word 𝓤 H A mem run) known-word (to-word r₁ u₁) (and-then ! (load ! (from ! (stop !)) (look ! 15 refl)) (no-more !)) (λ w₁. hears W ! tt (token 𝓤 κ q) usize (Number 4 32 r₁) (lasts word.ended (κ, tt) (r₁, tt)) w₁ (λ t₁ e₁ f₁.
+        calls-at ! fm (Word 𝓤 H A mem run) known-word (to-word r₁ u₁) (and-then ! (load ! (from ! (stop !)) (look ! 15 refl)) (no-more !)) (λ w₁. hears W ! tt (token 𝓤 κ q) usize (Number 4 r₁) (lasts word.ended (κ, tt) (r₁, tt)) w₁ (λ t₁ e₁ f₁.
         land ! (from ! (stop !)) (init ! 32 refl (uint-lawful 𝓤 H A W w64 .typed t₁ _ f₁ .0)) $ rewrite ! 32 (λ (x : Val). ‵ (fat fullShare (tyInt w64) l₃ 0 x)) (ap only (f₁ .0)) refl $ drop ! $
         -- the reader behind it; [the token; what the reader owns; what s owns; room for _17; …]
         assigns ! (of-opd ! (load ! (from ! (stop !)) (look ! 33 refl))) (from ! (stop !)) (init ! 13 refl (held W κ r₁ u₁ is₁)) $
@@ -200,7 +196,7 @@ module _ {M : Type 1} (𝓤 : URA M) (H : Heap 𝓤) (A : Atoms 𝓤) (W : Given
         -- offset; [what the reader owns; the token; what s owns; room for _17; …]
         assigns ! (of-opd ! (load ! (from ! (stop !)) (look ! 29 refl))) (from ! (stop !)) (init ! 11 refl (held W κ r₂ u₂ is₂)) $
         passes-copy W κ ! r₂ u₂ $
-        calls-at ! fm (Word 𝓤 H A mem run) known-word (to-word r₂ u₂) (and-then ! (load ! (from ! (stop !)) (look ! 11 refl)) (no-more !)) (λ w₂. hears W ! tt (token 𝓤 κ q) usize (Number 4 32 r₂) (lasts word.ended (κ, tt) (r₂, tt)) w₂ (λ t₂ e₂ f₂.
+        calls-at ! fm (Word 𝓤 H A mem run) known-word (to-word r₂ u₂) (and-then ! (load ! (from ! (stop !)) (look ! 11 refl)) (no-more !)) (λ w₂. hears W ! tt (token 𝓤 κ q) usize (Number 4 r₂) (lasts word.ended (κ, tt) (r₂, tt)) w₂ (λ t₂ e₂ f₂.
         land ! (from ! (stop !)) (init ! 28 refl (uint-lawful 𝓤 H A W w64 .typed t₂ _ f₂ .0)) $ rewrite ! 28 (λ (x : Val). ‵ (fat fullShare (tyInt w64) l₅ 0 x)) (ap only (f₂ .0)) refl $ drop ! $
         -- the reader behind it; [the token; what the reader owns; what s owns; room for _17; …]
         assigns ! (of-opd ! (load ! (from ! (stop !)) (look ! 29 refl))) (from ! (stop !)) (init ! 9 refl (held W κ r₂ u₂ is₂)) $
@@ -210,7 +206,7 @@ module _ {M : Type 1} (𝓤 : URA M) (H : Heap 𝓤) (A : Atoms 𝓤) (W : Given
         -- count; [what the reader owns; the token; what s owns; room for _17; …]
         assigns ! (of-opd ! (load ! (from ! (stop !)) (look ! 25 refl))) (from ! (stop !)) (init ! 7 refl (held W κ r₃ u₃ is₃)) $
         passes-copy W κ ! r₃ u₃ $
-        calls-at ! fm (Half 𝓤 H A mem run) known-half (to-half r₃ u₃) (and-then ! (load ! (from ! (stop !)) (look ! 7 refl)) (no-more !)) (λ w₃. hears W ! tt (token 𝓤 κ q) usize (Number 2 16 r₃) (lasts half.ended (κ, tt) (r₃, tt)) w₃ (λ t₃ e₃ f₃.
+        calls-at ! fm (Half 𝓤 H A mem run) known-half (to-half r₃ u₃) (and-then ! (load ! (from ! (stop !)) (look ! 7 refl)) (no-more !)) (λ w₃. hears W ! tt (token 𝓤 κ q) usize (Number 2 r₃) (lasts half.ended (κ, tt) (r₃, tt)) w₃ (λ t₃ e₃ f₃.
         land ! (from ! (stop !)) (init ! 24 refl (uint-lawful 𝓤 H A W w64 .typed t₃ _ f₃ .0)) $ rewrite ! 24 (λ (x : Val). ‵ (fat fullShare (tyInt w64) l₇ 0 x)) (ap only (f₃ .0)) refl $ drop ! $
         -- the reader behind it; [the token; what the reader owns; what s owns; room for _17; …]
         assigns ! (of-opd ! (load ! (from ! (stop !)) (look ! 25 refl))) (from ! (stop !)) (init ! 5 refl (held W κ r₃ u₃ is₃)) $
@@ -220,7 +216,7 @@ module _ {M : Type 1} (𝓤 : URA M) (H : Heap 𝓤) (A : Atoms 𝓤) (W : Given
         -- edition; [what the reader owns; the token; what s owns; room for _17; …]
         assigns ! (of-opd ! (load ! (from ! (stop !)) (look ! 21 refl))) (from ! (stop !)) (init ! 3 refl (held W κ r₄ u₄ is₄)) $
         passes W κ ! r₄ u₄ $
-        calls-at ! fm (Half 𝓤 H A mem run) known-half (to-half r₄ u₄) (and-then ! (load ! (from ! (stop !)) (look ! 2 refl)) (no-more !)) (λ w₄. hears W ! tt (token 𝓤 κ q) usize (Number 2 16 r₄) (lasts half.ended (κ, tt) (r₄, tt)) w₄ (λ t₄ e₄ f₄.
+        calls-at ! fm (Half 𝓤 H A mem run) known-half (to-half r₄ u₄) (and-then ! (load ! (from ! (stop !)) (look ! 2 refl)) (no-more !)) (λ w₄. hears W ! tt (token 𝓤 κ q) usize (Number 2 r₄) (lasts half.ended (κ, tt) (r₄, tt)) w₄ (λ t₄ e₄ f₄.
         land ! (from ! (stop !)) (init ! 19 refl (uint-lawful 𝓤 H A W w64 .typed t₄ _ f₄ .0)) $ rewrite ! 19 (λ (x : Val). ‵ (fat fullShare (tyInt w64) l₉ 0 x)) (ap only (f₄ .0)) refl $ drop ! $
         -- all four; [the token; what s owns; _17; …]
         assigns ! (agg ! (and-then ! (load ! (from ! (stop !)) (look ! 30 refl)) (and-then ! (load ! (from ! (stop !)) (look ! 26 refl)) (and-then ! (load ! (from ! (stop !)) (look ! 22 refl)) (and-then ! (load ! (from ! (stop !)) (look ! 18 refl)) (no-more !)))))) (from ! (stop !)) (init ! 36 refl (tt, (record { fits = f₁ .1 }, (record { fits = f₂ .1 }, (record { fits = f₃ .1 }, (record { fits = f₄ .1 }, tt)))))) $
