@@ -16,9 +16,9 @@ use Rattle.rules.specs.Model.{Model, maskOf, activeCount}
 use Rattle.rules.specs.Places.{model}
 use Rattle.rules.specs.Refusals.{first}
 use Rattle.rules.specs.Sound.{sound}
-use Rattle.rules.proofs.Facts.{points}
-use Rattle.rules.proofs.GoodTable.{good-table}
-use Rattle.rules.proofs.Refusing.{given-here, given-later}
+use Rattle.promises.proofs.Facts.{points}
+use Rattle.promises.proofs.GoodTable.{good-table}
+use Rattle.promises.proofs.Refusing.{given-here, given-later}
 use Rattle.order.specs.Choice.{inUse}
 use Rattle.order.proofs.Choosing.{mask-shown, count-active}
 

@@ -19,8 +19,8 @@ use Rattle.rules.specs.Places.{model, guestOf, guestPlace, packed}
 use Rattle.rules.specs.Refusals.{Row, _gives_, first}
 use Rattle.rules.specs.Sound.{sound}
 use Rattle.rules.specs.Steps.{wake, join, arrive}
-use Rattle.rules.proofs.Facts.{sane-model}
-use Rattle.rules.proofs.Keeping.{entry-join}
+use Rattle.promises.proofs.Facts.{sane-model}
+use Rattle.promises.proofs.Keeping.{entry-join}
 use Rattle.order.specs.Choice.{inUse}
 use Rattle.order.proofs.Choosing.{count-active}
 use Rattle.engine.proofs.Answering.{mask-told}

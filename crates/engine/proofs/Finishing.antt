@@ -21,8 +21,8 @@ use Rattle.rules.specs.Places.{spareOf, model, guestPlace, packed}
 use Rattle.rules.specs.Refusals.{_gives_, first}
 use Rattle.rules.specs.Sound.{sound}
 use Rattle.rules.specs.Steps.{but, insertSpare, finish, leave, done}
-use Rattle.rules.proofs.Facts.{sane-model}
-use Rattle.rules.proofs.Keeping.{entry-finish, length-insert}
+use Rattle.promises.proofs.Facts.{sane-model}
+use Rattle.promises.proofs.Keeping.{entry-finish, length-insert}
 use Rattle.engine.proofs.Arriving.{idle-known, active-known}
 use Rattle.time.specs.Clocks.{listed}
 use Rattle.time.proofs.Placing.{entryAt, placeAt, Here, spares-count, guest-inside, guest-here, step-packed, guest-stored}

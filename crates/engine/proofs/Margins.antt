@@ -20,7 +20,7 @@ use Rattle.rules.specs.Places.{model}
 use Rattle.rules.specs.Refusals.{first, numberOf, refusalNumber}
 use Rattle.rules.specs.Sound.{sound}
 use Rattle.rules.specs.Steps.{margin}
-use Rattle.rules.proofs.Facts.{sane-model}
+use Rattle.promises.proofs.Facts.{sane-model}
 use Rattle.time.proofs.Placing.{placeAt, guest-here, guest-good}
 use Rattle.time.proofs.Rows.{gives-1, gives-2, past-2, told-nothing}
 

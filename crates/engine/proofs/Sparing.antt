@@ -11,7 +11,7 @@ use Rattle.rules.specs.declared.Spare.{Spare as SparePlace}
 use Rattle.rules.specs.Model.{Spare}
 use Rattle.rules.specs.Steps.{before, insertSpare}
 use Rattle.rules.specs.Places.{spareOf, sparePlace}
-use Rattle.rules.proofs.Packing.{spare-places}
+use Rattle.promises.proofs.Packing.{spare-places}
 
 module _ (x : SparePlace) (a : List SparePlace) (n : ℕ) where
   -- the list with x, where x belongs

@@ -23,10 +23,10 @@ use Rattle.rules.specs.Refusals.{Row, _gives_, first, outside, refusalNumber, n
 use Rattle.rules.specs.Table.{noEntry, noTable, countRow, rangeRows, tableRows}
 use Rattle.rules.specs.Image.{entryBytes, trailerBytes, field, trailerAt, frameIn, offsetIn, countIn, editionIn, entryIn, entriesIn, entriesPart, tableIn, readRows}
 use Rattle.rules.specs.Calls.{kept, TableRead, EntriesHanded}
-use Rattle.rules.proofs.Refusing.{given-here, given-later}
-use Rattle.rules.proofs.GoodTable.{not-outside}
-use Rattle.rules.proofs.Images.{entries-in-long, readable}
-use Rattle.rules.proofs.Outcomes.{one-outcome, refusal-counts, kept-back}
+use Rattle.promises.proofs.Refusing.{given-here, given-later}
+use Rattle.promises.proofs.GoodTable.{not-outside}
+use Rattle.promises.proofs.Images.{entries-in-long, readable}
+use Rattle.promises.proofs.Outcomes.{one-outcome, refusal-counts, kept-back}
 use Rattle.reader.specs.declared.Trailer.{Trailer}
 use Rattle.reader.specs.Numbers.{numberAt, TrailerRead}
 use Rattle.image.specs.Handing.{EntriesPart}

@@ -19,10 +19,10 @@ use Rattle.rules.specs.Refusals.{Row, _gives_, first, numberOf}
 use Rattle.rules.specs.Table.{noEntry, entriesOf, tableRows}
 use Rattle.rules.specs.Image.{entryImage, entriesImage, trailerImage, imageOf, imageLength, writeRows, overwritten}
 use Rattle.rules.specs.Calls.{TableWritten}
-use Rattle.rules.proofs.Refusing.{clear, first-stays, first-behind}
-use Rattle.rules.proofs.GoodTable.{good}
-use Rattle.rules.proofs.Outcomes.{refusal-counts, kept-back}
-use Rattle.rules.proofs.Images.{entries-image-long, part-long, image-long}
+use Rattle.promises.proofs.Refusing.{clear, first-stays, first-behind}
+use Rattle.promises.proofs.GoodTable.{good}
+use Rattle.promises.proofs.Outcomes.{refusal-counts, kept-back}
+use Rattle.promises.proofs.Images.{entries-image-long, part-long, image-long}
 
 -- ---- entries, one after the other
 

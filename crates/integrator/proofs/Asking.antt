@@ -13,9 +13,9 @@ use Rattle.rules.specs.Places.{model}
 use Rattle.rules.specs.Refusals.{first, numberOf}
 use Rattle.rules.specs.Sound.{sound}
 use Rattle.rules.specs.Steps.{nothing, ask, Portion}
-use Rattle.rules.proofs.Facts.{sane-model}
-use Rattle.rules.proofs.Refusing.{clear}
-use Rattle.rules.proofs.Spans.{AtMost, span-positive}
+use Rattle.promises.proofs.Facts.{sane-model}
+use Rattle.promises.proofs.Refusing.{clear}
+use Rattle.promises.proofs.Spans.{AtMost, span-positive}
 use Rattle.integrator.specs.Stretch.{WithinSpan}
 
 -- the span of a portion is the span of the case that stands for it

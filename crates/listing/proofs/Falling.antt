@@ -11,7 +11,7 @@ use Rattle.laws.proofs.Cases.{by-test, by-leb, by-ltb}
 use Rattle.rules.specs.Refusals.{first}
 use Rattle.rules.specs.Table.{tableRows}
 use Rattle.rules.specs.Walks.{walkLeft}
-use Rattle.rules.proofs.Walks.{walk-left-falls, walk-left-bound}
+use Rattle.promises.proofs.Walks.{walk-left-falls, walk-left-bound}
 use Rattle.script.specs.declared.Line.{Line}
 use Rattle.script.specs.declared.Line.the-variants.{Frame, Guest, Arrive, Done, Advance, Malformed}
 use Rattle.listing.specs.declared.Stage.{Stage}

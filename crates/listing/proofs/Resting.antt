@@ -15,9 +15,9 @@ use Rattle.rules.specs.Sound.{sound}
 use Rattle.rules.specs.Calls.{Call, arrives, finishes, advances, advanceRows, told, numberGiven, stateAfter}
 use Rattle.rules.specs.Lines.{Line as PortionLine, lines, linesOf}
 use Rattle.rules.specs.Walks.{portionPlace, walkLines, walkState, walkLeft}
-use Rattle.rules.proofs.Calling.{MayAdvance, may-advance, may-stay, advance-allowed, advance-nothing, sound-kept}
-use Rattle.rules.proofs.Starting.{fresh-is-sound}
-use Rattle.rules.proofs.Walks.{walk-on, walk-joins, walk-reaches}
+use Rattle.promises.proofs.Calling.{MayAdvance, may-advance, may-stay, advance-allowed, advance-nothing, sound-kept}
+use Rattle.promises.proofs.Starting.{fresh-is-sound}
+use Rattle.promises.proofs.Walks.{walk-on, walk-joins, walk-reaches}
 use Rattle.script.specs.declared.Line.{Line}
 use Rattle.script.specs.declared.Line.the-variants.{Frame, Guest, Arrive, Done, Advance, Malformed}
 use Rattle.lines.specs.Lines.{refusalBytes, endBytes}

@@ -19,7 +19,7 @@ use Rattle.rules.specs.declared.Guest.{Guest as GuestPlace}
 use Rattle.rules.specs.Model.{Guest, guest, bitOf, maskOf, activeCount}
 use Rattle.rules.specs.Places.{guestOf, noGuestPlace}
 use Rattle.rules.specs.Steps.{Pick, nobody, runs, ready, sooner, earliest}
-use Rattle.rules.proofs.Mask.{bit-small, ones-of-mask}
+use Rattle.promises.proofs.Mask.{bit-small, ones-of-mask}
 use Rattle.order.specs.Choice.{shown, inUse, beats}
 
 -- ---- an active guest

@@ -16,9 +16,9 @@ use Rattle.rules.specs.declared.Next.the-variants.{Run}
 use Rattle.rules.specs.Calls.{portionOf}
 use Rattle.rules.specs.Lines.{ticksOn}
 use Rattle.rules.specs.Model.{Guest, guest, Spare, spare, Model, leftOf, capacityOf, guestAt, spareAt}
-use Rattle.rules.specs.Promises.{Uses}
+use Rattle.promises.specs.Promises.{Uses}
 use Rattle.rules.specs.Steps.{runs, Portion, onOwn, onSpare, burning, nothing, portion}
-use Rattle.rules.proofs.Spans.{runOwnBy, runLentBy, spendBy, laterBy, chargeBy, AtMost}
+use Rattle.promises.proofs.Spans.{runOwnBy, runLentBy, spendBy, laterBy, chargeBy, AtMost}
 use Rattle.portions.specs.declared.Charge.{Charge}
 use Rattle.portions.specs.Charges.{firstOf, removedBy, runCharge, chargeOf}
 

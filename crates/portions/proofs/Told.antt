@@ -1,6 +1,6 @@
 -- Any two answers that a predicate allows are equal.
 use mathlib.Core.Path.{sym, _∙_}
-use Rattle.rules.proofs.Outcomes.{answers-determined}
+use Rattle.promises.proofs.Outcomes.{answers-determined}
 use Rattle.portions.specs.Charges.{OneAnswer}
 
 pub one-answer : OneAnswer

@@ -1,4 +1,5 @@
 -- "Pairs at the borders": the starred ones, as rows of what the rules compute and what the document says.
+use mathlib.Core.Path.{_≡_}
 use mathlib.Core.List.{List, [], _∷_, _++_, map}
 use Prim.Native.Nat.{ℕ, zero, suc}
 use lib.ListN.{length}
@@ -176,3 +177,7 @@ endRows =
 unfoldable pub borders : List Border
 unfolding listingRows renewalRows tableBorders roomRows ownSpareRows endRows
 borders = listingRows ++ renewalRows ++ tableBorders ++ roomRows ++ ownSpareRows ++ endRows
+
+-- "Starred ones are proved of the rules themselves, as rows under a single statement."
+abbrev pub BordersHold : Type 0
+BordersHold = map (λ (b : Border). b .computed) borders ≡ map (λ (b : Border). b .expected) borders

@@ -24,8 +24,8 @@ use Rattle.rules.specs.declared.Table.{Table}
 use Rattle.rules.specs.declared.Answer.{Answer}
 use Rattle.rules.specs.declared.Answer.the-variants.{Went, Refused}
 use Rattle.rules.specs.declared.Refusal.{Refusal}
-use Rattle.rules.proofs.Facts.{points, sane-model}
-use Rattle.rules.proofs.Outcomes.{refusal-counts}
+use Rattle.promises.proofs.Facts.{points, sane-model}
+use Rattle.promises.proofs.Outcomes.{refusal-counts}
 use Rattle.order.specs.Choice.{inUse}
 use Rattle.sound.specs.Testing.{guestsOf, guestHolds, sparePlaceHolds, placeTallies}
 use Rattle.order.proofs.Choosing.{count-shown}

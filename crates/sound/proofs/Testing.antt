@@ -17,7 +17,7 @@ use Rattle.rules.specs.Model.{Guest, noGuest, guestAt}
 use Rattle.rules.specs.Places.{guestOf, spareOf, noGuestPlace}
 use Rattle.rules.specs.Sound.{rising}
 use Rattle.rules.specs.Steps.{before}
-use Rattle.rules.proofs.Packing.{zip-at, zip-length}
+use Rattle.promises.proofs.Packing.{zip-at, zip-length}
 use Rattle.sound.specs.Testing.{guestsOf, guestHolds, tallySmall, placeTallies, spareFits, sparePlaceHolds}
 use Rattle.laws.specs.Lists.{every, total}
 use Rattle.laws.proofs.Cases.{and-both, and-intro, by-test, never}

@@ -28,7 +28,7 @@ use Rattle.rules.specs.Places.{model, freshState, noState}
 use Rattle.rules.specs.Calls.{advanceRows, told, kept, Freshened, NumberTold}
 use Rattle.rules.specs.Lines.{ticksOn, lines}
 use Rattle.rules.specs.Walks.{portionPlace, noPortion, walkLines, Walked}
-use Rattle.rules.proofs.Outcomes.{refusal-counts}
+use Rattle.promises.proofs.Outcomes.{refusal-counts}
 use Rattle.lines.specs.Lines.{portionBytes, refusalBytes, lineRoom, hasRoom, LinePut}
 use Rattle.listing.specs.declared.Held.{Held}
 use Rattle.listing.specs.Listing.{refusalIn, portionsBytes, withGuest}

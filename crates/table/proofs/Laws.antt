@@ -15,8 +15,8 @@ use Rattle.rules.specs.declared.Table.{Table}
 use Rattle.rules.specs.Limits.{guestPlaces, longestFrame}
 use Rattle.rules.specs.Refusals.{_gives_, first, outside}
 use Rattle.rules.specs.Table.{divides, fitsFrame, shareOf, entriesOf, sharesOf, entryIsZero, rangeRows, tableRows}
-use Rattle.rules.proofs.Refusing.{given-here, given-later}
-use Rattle.rules.proofs.GoodTable.{not-outside}
+use Rattle.promises.proofs.Refusing.{given-here, given-later}
+use Rattle.promises.proofs.GoodTable.{not-outside}
 
 -- a period of 0 is never as long as a budget of 1
 pub no-period : (H Q T : ℕ) → T ≡ 0 → false ≡ leb 1 Q && leb Q T && divides T H

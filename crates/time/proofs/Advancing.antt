@@ -24,12 +24,12 @@ use Rattle.rules.specs.Refusals.{Row, _gives_, first, numberOf, refusalNumber}
 use Rattle.rules.specs.Sound.{sound}
 use Rattle.rules.specs.Steps.{advance}
 use Rattle.rules.specs.Walks.{ticksIn, portionPlace, noPortion, walkLines, walkState, walkLeft, Walked}
-use Rattle.rules.proofs.Calling.{MayAdvance, may-advance}
-use Rattle.rules.proofs.Facts.{sane-model, packed-back, packed-sound}
-use Rattle.rules.proofs.Packing.{model-packed}
-use Rattle.rules.proofs.Refusing.{given-here, given-later}
-use Rattle.rules.proofs.Ticking.{advance-now, advance-add, advance-sane}
-use Rattle.rules.proofs.Walks.{ticks-in-le, ticks-in-some, walk-state, walk-left}
+use Rattle.promises.proofs.Calling.{MayAdvance, may-advance}
+use Rattle.promises.proofs.Facts.{sane-model, packed-back, packed-sound}
+use Rattle.promises.proofs.Packing.{model-packed}
+use Rattle.promises.proofs.Refusing.{given-here, given-later}
+use Rattle.promises.proofs.Ticking.{advance-now, advance-add, advance-sane}
+use Rattle.promises.proofs.Walks.{ticks-in-le, ticks-in-some, walk-state, walk-left}
 use Rattle.time.proofs.Rows.{gives-1, past-1, told-nothing}
 
 -- ---- the rows

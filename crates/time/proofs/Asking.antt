@@ -16,7 +16,7 @@ use Rattle.rules.specs.Calls.{told, askRows, portionOf, AskedFor}
 use Rattle.rules.specs.Places.{model, noSparePlace}
 use Rattle.rules.specs.Sound.{sound}
 use Rattle.rules.specs.Steps.{renew, renewed, Pick, earliest, Portion, nothing, portion, next, ask}
-use Rattle.rules.proofs.Facts.{points, guests-count}
+use Rattle.promises.proofs.Facts.{points, guests-count}
 use Rattle.order.specs.Choice.{inUse}
 use Rattle.portions.specs.Charges.{firstOf}
 use Rattle.time.specs.Clocks.{placed}

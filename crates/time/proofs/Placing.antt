@@ -19,9 +19,9 @@ use Rattle.rules.specs.Places.{guestOf, model, entryOf, guestPlace, noGuestPlac
 use Rattle.rules.specs.Sound.{sound}
 use Rattle.rules.specs.Steps.{but}
 use Rattle.rules.specs.Table.{entriesOf, noEntry}
-use Rattle.rules.proofs.Facts.{InRange, GuestGood, points, sane-model, packed-back, guests-count}
-use Rattle.rules.proofs.GoodTable.{Good, good-table}
-use Rattle.rules.proofs.Packing.{zip-at, guest-zero, spare-zero}
+use Rattle.promises.proofs.Facts.{InRange, GuestGood, points, sane-model, packed-back, guests-count}
+use Rattle.promises.proofs.GoodTable.{Good, good-table}
+use Rattle.promises.proofs.Packing.{zip-at, guest-zero, spare-zero}
 use Rattle.time.specs.Clocks.{placed, listed}
 
 -- ---- any guests in places

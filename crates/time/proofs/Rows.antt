@@ -15,8 +15,8 @@ use Rattle.rules.specs.Model.{Model}
 use Rattle.rules.specs.Places.{model, packed}
 use Rattle.rules.specs.Refusals.{Row, first, numberOf, refusalNumber}
 use Rattle.rules.specs.Sound.{sound}
-use Rattle.rules.proofs.Outcomes.{refusal-counts}
-use Rattle.rules.proofs.Refusing.{given-here, given-later}
+use Rattle.promises.proofs.Outcomes.{refusal-counts}
+use Rattle.promises.proofs.Refusing.{given-here, given-later}
 
 -- ---- rows 1 and 2, and those behind them
 

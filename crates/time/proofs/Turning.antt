@@ -28,13 +28,13 @@ use Rattle.rules.specs.Sound.{sound}
 use Rattle.rules.specs.Steps.{but, renew, renewed, Pick, nobody, runs, ready, earliest, Portion, portion, next, advance, ask}
 use Rattle.rules.specs.Table.{noEntry}
 use Rattle.rules.specs.Walks.{ticksIn, portionPlace, noPortion, Walked}
-use Rattle.rules.proofs.Calling.{MayAdvance, advance-allowed}
-use Rattle.rules.proofs.Packing.{spare-places}
-use Rattle.rules.proofs.Facts.{GuestGood, Sane, points, sane-model, guests-count}
-use Rattle.rules.proofs.Keeping.{entry-renew, tallies-renew, bit-renew}
-use Rattle.rules.proofs.Spans.{settled, ask-uses, span-positive, at-once}
-use Rattle.rules.proofs.Ticking.{advance-add, advance-sane}
-use Rattle.rules.proofs.Walks.{ticks-in-le, lines-more, ticks-more, ticks-enough, lines-enough, walk-lines, walk-left, walk-state}
+use Rattle.promises.proofs.Calling.{MayAdvance, advance-allowed}
+use Rattle.promises.proofs.Packing.{spare-places}
+use Rattle.promises.proofs.Facts.{GuestGood, Sane, points, sane-model, guests-count}
+use Rattle.promises.proofs.Keeping.{entry-renew, tallies-renew, bit-renew}
+use Rattle.promises.proofs.Spans.{settled, ask-uses, span-positive, at-once}
+use Rattle.promises.proofs.Ticking.{advance-add, advance-sane}
+use Rattle.promises.proofs.Walks.{ticks-in-le, lines-more, ticks-more, ticks-enough, lines-enough, walk-lines, walk-left, walk-state}
 use Rattle.order.specs.Choice.{shown, inUse}
 use Rattle.order.proofs.Choosing.{lowest-first, in-use-few}
 use Rattle.portions.specs.declared.Charge.{Charge}

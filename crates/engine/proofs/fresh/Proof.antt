@@ -10,7 +10,7 @@ use Rattle.rules.specs.Calls.{kept}
 use Rattle.rules.specs.Places.{freshState, noState}
 use Rattle.rules.specs.Refusals.{first, numberOf}
 use Rattle.rules.specs.Table.{tableRows}
-use Rattle.rules.proofs.Outcomes.{refusal-counts, kept-back}
+use Rattle.promises.proofs.Outcomes.{refusal-counts, kept-back}
 use borrow.Author.Needs.{needs}
 use Rattle.engine.proofs.fresh.Statement.{statement}
 use Rattle.engine.proofs.fresh.Tie as tie

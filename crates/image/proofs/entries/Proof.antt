@@ -4,7 +4,7 @@ use native.Mathlib.Omega.{arith}
 use denote.Ref.{now}
 use Rattle.rules.specs.Refusals.{first}
 use Rattle.rules.specs.Image.{readRows}
-use Rattle.rules.proofs.Images.{Readable, readable}
+use Rattle.promises.proofs.Images.{Readable, readable}
 use Rattle.image.proofs.Reading.{Numbers, numbers-of, went-number, refused-hands, went-hands}
 use borrow.Author.Needs.{needs}
 use Rattle.image.proofs.entries.Statement.{statement}

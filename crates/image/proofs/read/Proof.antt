@@ -6,7 +6,7 @@ use lib.ListN.{length}
 use Rattle.rules.specs.Limits.{guestPlaces, shortestImage, longestImage}
 use Rattle.rules.specs.Refusals.{numberOf}
 use Rattle.rules.specs.Image.{countIn}
-use Rattle.rules.proofs.GoodTable.{below, above}
+use Rattle.promises.proofs.GoodTable.{below, above}
 use Rattle.image.proofs.Reading.{gives-8, gives-9, gives-10, gives-11, as-table, refused-read, tested-read, Numbers, numbers-of}
 use borrow.Author.Needs.{needs}
 use Rattle.image.proofs.read.Statement.{statement}

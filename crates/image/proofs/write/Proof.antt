@@ -4,7 +4,7 @@ use native.Mathlib.Omega.{arith}
 use denote.Ref.{now}
 use Rattle.rules.specs.Refusals.{first, numberOf}
 use Rattle.rules.specs.Table.{tableRows}
-use Rattle.rules.proofs.GoodTable.{Good, good}
+use Rattle.promises.proofs.GoodTable.{Good, good}
 use Rattle.image.proofs.Storing.{table-refused, buffer-refused, written}
 use borrow.Author.Needs.{needs}
 use Rattle.image.proofs.write.Statement.{statement}

@@ -1,6 +1,6 @@
 -- `sound::is_sound` meets its contract: a count past its places is not sound.
 use native.Mathlib.Omega.{arith}
-use Rattle.rules.proofs.GoodTable.{good-table}
+use Rattle.promises.proofs.GoodTable.{good-table}
 use Rattle.sound.proofs.Sounding.{table-refused, table-went, bad-table, too-many, too-late}
 use borrow.Author.Needs.{needs}
 use Rattle.sound.proofs.is_sound.Statement.{statement}

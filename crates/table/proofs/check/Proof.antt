@@ -5,7 +5,7 @@ use native.Mathlib.Omega.{arith}
 use borrow.Author.Tests.{not-true, not-false}
 use Rattle.laws.proofs.Places.{length-mapped}
 use Rattle.rules.specs.Limits.{guestPlaces, longestFrame}
-use Rattle.rules.proofs.GoodTable.{below, above}
+use Rattle.promises.proofs.GoodTable.{below, above}
 use Rattle.table.proofs.Laws.{Fitting, gives-10, gives-12, gives-13, gives-14, gives-0, first-fails, second-fails, both-hold}
 use borrow.Author.Needs.{needs}
 use Rattle.table.proofs.check.Statement.{statement}

@@ -4,7 +4,7 @@ use Prim.Native.Nat.{ℕ}
 use native.Mathlib.Omega.{arith}
 use lib.Dec.{eqb}
 use Rattle.rules.specs.Limits.{sparePlaces}
-use Rattle.rules.proofs.Facts.{points}
+use Rattle.promises.proofs.Facts.{points}
 use Rattle.engine.proofs.Arriving.{occupied-told}
 use borrow.Author.Needs.{needs}
 use Rattle.engine.proofs.arrival.is_full.Statement.{statement}

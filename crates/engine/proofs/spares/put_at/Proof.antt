@@ -5,7 +5,7 @@ use Rattle.laws.proofs.Parts.{Moved, moved-start, moved-more}
 use Rattle.laws.proofs.Places.{moved-back}
 use Rattle.rules.specs.Limits.{sparePlaces}
 use Rattle.rules.specs.Places.{noSparePlace, sparePlaceIsZero}
-use Rattle.rules.proofs.Packing.{spare-zero}
+use Rattle.promises.proofs.Packing.{spare-zero}
 use borrow.Author.Needs.{needs}
 use Rattle.engine.proofs.spares.put_at.Statement.{statement}
 use Rattle.engine.proofs.spares.put_at.Tie as tie

@@ -1,0 +1,22 @@
+-- The theorems about the rules; specs/Promises.antt states them.
+pub mod Calling
+pub mod Choosing
+pub mod Facts
+pub mod GoodTable
+pub mod Histories
+pub mod Images
+pub mod Keeping
+pub mod Legal
+pub mod Listed
+pub mod Mask
+pub mod Needed
+pub mod Outcomes
+pub mod Owed
+pub mod Packing
+pub mod Promised
+pub mod Refusing
+pub mod Served
+pub mod Spans
+pub mod Starting
+pub mod Ticking
+pub mod Walks

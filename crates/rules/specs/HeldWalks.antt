@@ -1,0 +1,72 @@
+-- Rows that hold `Lines` and `Walks`: portions of every use, the lines of an advance, and whole outcomes of a walk.
+use mathlib.Core.Path.{_≡_}
+use mathlib.Core.List.{List, [], _∷_, map}
+use Prim.Native.Nat.{ℕ}
+use lib.ListN.{length, replicate}
+use Rattle.rules.specs.declared.State.{State}
+use Rattle.rules.specs.declared.Refusal.the-variants.{EndOfTime}
+use Rattle.rules.specs.declared.Answer.the-variants.{Went, Refused}
+use Rattle.rules.specs.declared.Used.{Used}
+use Rattle.rules.specs.declared.Used.the-variants.{Own, SpareOf, Burned, Idle}
+use Rattle.rules.specs.declared.Portion.{Portion as PortionPlace}
+use Rattle.rules.specs.Model.{guest, spare}
+use Rattle.rules.specs.Steps.{onOwn, onSpare, burning, nothing}
+use Rattle.rules.specs.Places.{packed}
+use Rattle.rules.specs.Calls.{arrives, finishes, advances, asks, asksActive, asksMargin}
+use Rattle.rules.specs.Lines.{own, spareOf, burned, idle, line, useOf, ticksOn, lines, linesOf, listing}
+use Rattle.rules.specs.Walks.{ticksIn, usedOf, noPortion, walkLines, walkState, walkLeft, Walked}
+use Rattle.rules.specs.Samples.{running, resting, leftovers, sampleModel, sample, lone}
+use Rattle.rules.specs.HeldSteps.{of, at10, then}
+
+-- a portion in its place
+abbrev pub portionIn : ℕ → ℕ → Used → PortionPlace
+portionIn first end used = record { first = first; end = end; used = used }
+
+-- "one line per portion"
+pub record LinesHeld : Type 0 where
+  pub uses : map useOf (onOwn 1 2 3 ∷ onSpare 1 4 2 3 ∷ burning 4 2 3 ∷ nothing ∷ []) ≡ own 1 ∷ spareOf 1 4 ∷ burned 4 ∷ idle ∷ []
+  -- what is left of k ticks or of the span ends a portion; nothing to do has no end
+  pub cut : map (ticksOn 3) (onOwn 1 2 4 ∷ onSpare 1 4 2 4 ∷ burning 4 2 4 ∷ nothing ∷ []) ≡ 3 ∷ 3 ∷ 3 ∷ 3 ∷ []
+  pub spent : map (ticksOn 5) (onOwn 1 2 4 ∷ onSpare 1 4 2 4 ∷ burning 4 2 4 ∷ nothing ∷ []) ≡ 4 ∷ 4 ∷ 4 ∷ 5 ∷ []
+  -- "each next spare, even of the same owner" is a new portion
+  pub spares : linesOf (advances 7) sample ≡ line 10 14 (spareOf 0 1) ∷ line 14 15 (spareOf 0 1) ∷ line 15 17 (spareOf 0 0) ∷ []
+  -- "A renewed budget is a new portion"
+  pub budgets : lines 9 5 (at10 (of 1 2 20 ∷ []) []) ≡ line 10 12 (own 0) ∷ line 12 15 (own 0) ∷ []
+  pub idles : lines 9 5 (at10 (of 0 0 20 ∷ []) (spare 20 0 2 ∷ [])) ≡ line 10 12 (burned 0) ∷ line 12 15 idle ∷ []
+  -- at most so many of them
+  pub most : lines 1 7 sampleModel ≡ line 10 14 (spareOf 0 1) ∷ []
+  -- "an `R` of 0 prints none", a refused one too, and no other call has any
+  pub none-printed : linesOf (advances 0) sample ≡ []
+  pub refused : linesOf (advances 1) (lone 1099511627776 0 0 0) ≡ []
+  pub other-calls : map (λ c. linesOf c sample) (arrives 1 ∷ finishes 0 ∷ asks ∷ asksActive ∷ asksMargin 0 ∷ []) ≡ [] ∷ [] ∷ [] ∷ [] ∷ [] ∷ []
+  -- "Lines of two `R` commands are not joined"
+  pub not-joined : listing (advances 1 ∷ arrives 0 ∷ advances 2 ∷ []) sample ≡ line 10 11 (spareOf 0 1) ∷ line 11 13 (spareOf 0 1) ∷ []
+
+-- a walk
+pub record WalksHeld : Type 0 where
+  pub used : map usedOf (own 1 ∷ spareOf 1 4 ∷ burned 4 ∷ idle ∷ []) ≡ Own 1 ∷ SpareOf 1 4 ∷ Burned 4 ∷ Idle ∷ []
+  pub empty : noPortion ≡ portionIn 0 0 Idle
+  -- the ticks of the first portions
+  pub ticks : (ticksIn 0 7 sampleModel ∷ ticksIn 1 7 sampleModel ∷ ticksIn 2 7 sampleModel ∷ ticksIn 3 7 sampleModel ∷ ticksIn 3 0 sampleModel ∷ []) ≡ 0 ∷ 4 ∷ 5 ∷ 7 ∷ 0 ∷ []
+  pub walked :
+      Walked sample 7
+      (record {
+        answer = Went;
+        state = packed (then 17 (guest 3 12 2 2 30 3 8 ∷ resting ∷ []) (spare 24 0 1 ∷ []) 1 2);
+        left = 0;
+        count = 3;
+        portions = portionIn 10 14 (SpareOf 0 1) ∷ portionIn 14 15 (SpareOf 0 1) ∷ portionIn 15 17 (SpareOf 0 0) ∷ replicate 61 (portionIn 0 0 Idle);
+      })
+  pub walked-refused :
+      Walked (lone 1099511627776 0 0 0) 1
+      (record {
+        answer = Refused EndOfTime;
+        state = lone 1099511627776 0 0 0;
+        left = 0;
+        count = 0;
+        portions = replicate 64 (portionIn 0 0 Idle);
+      })
+  -- a walk answers 64 portions: a guest (1, 1) has one in each tick
+  pub portions : length (walkLines 65 (lone 0 1 1 1)) ≡ 64
+  pub left : (walkLeft 64 (lone 0 1 1 1) ∷ walkLeft 65 (lone 0 1 1 1) ∷ []) ≡ 0 ∷ 1 ∷ []
+  pub reached : walkState 65 (lone 0 1 1 1) .now ≡ 64
