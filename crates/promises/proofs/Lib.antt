@@ -1,4 +1,5 @@
 -- The theorems about the rules; specs/Promises.antt states them.
+pub mod Borders
 pub mod Calling
 pub mod Choosing
 pub mod Facts

@@ -11,8 +11,8 @@ use Rattle.rules.specs.Steps.{arrive, renewed, next, serve, tick, advance}
 use Rattle.rules.specs.Places.{model, packed, freshState}
 use Rattle.rules.specs.Sound.{inRange, sound}
 use Rattle.rules.specs.Calls.{Call, arrives, finishes, advances, asks, asksActive, asksMargin, numberGiven, stateAfter}
-use Rattle.rules.specs.Borders.{endOfTime}
-use Rattle.rules.proofs.Borders.{Hold, hold-each, all-hold}
+use Rattle.promises.specs.Borders.{endOfTime}
+use Rattle.promises.proofs.Borders.{Hold, hold-each, all-hold}
 use Rattle.promises.specs.Needed.{line212State, overfullRows, line212Rows}
 use Rattle.promises.specs.Promises.{EndReached, ShareNeeded, Line212}
 

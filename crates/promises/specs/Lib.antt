@@ -2,6 +2,7 @@
 pub mod Joining
 pub mod Spans
 pub mod Runs
+pub mod Borders
 pub mod Needed
 pub mod Promises
 pub mod Histories

@@ -9,7 +9,8 @@ use Rattle.rules.specs.Table.{tableRows, sharesOf}
 use Rattle.rules.specs.Model.{guest, spare, Model, leftOf, deadlineOf, guestAt}
 use Rattle.rules.specs.Places.{model, packed, freshState}
 use Rattle.promises.specs.Runs.{arrival, oneTick, afterAll}
-use Rattle.rules.specs.Borders.{_by_, table, Border, values, says}
+use Rattle.rules.specs.Samples.{_by_, table}
+use Rattle.promises.specs.Borders.{Border, values, says}
 
 -- the tick, and guest 1's c and d
 abbrev pub second : Model → List ℕ

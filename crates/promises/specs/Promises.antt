@@ -31,7 +31,8 @@ use Rattle.rules.specs.Calls.{named, arrives, arriveRows, doneRows, advanceRows
 use Rattle.rules.specs.Walks.{Walked, noPortion}
 use Rattle.promises.specs.Runs.{afterAll, events, passed, ownTicks, lentTicks}
 use Rattle.promises.specs.Needed.{line212State, overfullRows, line212Rows}
-use Rattle.rules.specs.Borders.{Border, alone, endOfTime}
+use Rattle.rules.specs.Samples.{alone}
+use Rattle.promises.specs.Borders.{Border, endOfTime}
 
 -- ---- the document's own numbers
 

@@ -11,7 +11,7 @@ use Rattle.rules.specs.Refusals.{first, holds}
 use Rattle.rules.specs.Table.{noTable}
 use Rattle.rules.specs.Image.{little, field, trailerAt, frameIn, offsetIn, countIn, editionIn, entriesIn, entriesPart, tableIn, readRows, bytesOf, imageOf, imageLength, writeRows, overwritten}
 use Rattle.rules.specs.Calls.{TableRead, EntriesHanded, ImageChecked, TableWritten}
-use Rattle.rules.specs.Borders.{_by_, two}
+use Rattle.rules.specs.Samples.{_by_, two}
 use Rattle.rules.specs.HeldTable.{counted}
 
 -- the number that reading an image gives

@@ -9,8 +9,7 @@ use Rattle.rules.specs.declared.State.{State}
 use Rattle.rules.specs.Model.{guest, spare}
 use Rattle.rules.specs.Places.{packed}
 use Rattle.rules.specs.Sound.{sound}
-use Rattle.rules.specs.Samples.{running, resting, leftovers, sampleOf, sample, withFirst, withSecond, withSpares, withIdle, withLastGuest, withLastSpare, withCount, withTable, lone, crowded}
-use Rattle.rules.specs.Borders.{_by_, table}
+use Rattle.rules.specs.Samples.{_by_, table, running, resting, leftovers, sampleOf, sample, withFirst, withSecond, withSpares, withIdle, withLastGuest, withLastSpare, withCount, withTable, lone, crowded}
 use Rattle.rules.specs.HeldTable.{counted, lastPlace, sixteen}
 
 -- a guest's place

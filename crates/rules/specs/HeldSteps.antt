@@ -9,8 +9,7 @@ use Rattle.rules.specs.declared.State.{State}
 use Rattle.rules.specs.Model.{Guest, guest, Spare, spare, Model, budgetOf, jobsOf, leftOf, deadlineOf, ownOf, lentOf, talliesOf, dueOf, ownerOf, capacityOf, active, idleGuest, guestAt, spareAt, maskOf, activeCount, occupied, tallies}
 use Rattle.rules.specs.Steps.{wake, join, arrive, before, insertSpare, finish, leave, done, renew, renewed, Pick, nobody, runs, ready, sooner, earliest, Portion, onOwn, onSpare, burning, nothing, portion, next, spend, runOwn, runLent, charge, tick, advance, ask, margin}
 use Rattle.rules.specs.Places.{model, packed, freshState, noState}
-use Rattle.rules.specs.Borders.{_by_, table}
-use Rattle.rules.specs.Samples.{running, resting, leftovers, sampleOf, sampleModel, sample}
+use Rattle.rules.specs.Samples.{_by_, table, running, resting, leftovers, sampleOf, sampleModel, sample}
 use Rattle.rules.specs.HeldTable.{sixteen, counted}
 use Rattle.rules.specs.HeldSound.{place, listed}
 

@@ -10,7 +10,7 @@ use Rattle.rules.specs.declared.Refusal.the-variants.{NotSound, NoSuchGu
 use Rattle.rules.specs.declared.Answer.the-variants.{Went, Refused}
 use Rattle.rules.specs.Refusals.{_gives_, first, numbers, holds, outside, refusalNumber, numberOf}
 use Rattle.rules.specs.Table.{shareOf, entriesOf, sharesOf, tableRows, goodTable, noTable}
-use Rattle.rules.specs.Borders.{_by_, table}
+use Rattle.rules.specs.Samples.{_by_, table}
 
 -- the number that the check of a table gives
 abbrev pub refused : Table → ℕ

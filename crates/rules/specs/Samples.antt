@@ -1,14 +1,36 @@
--- What the rows are computed on: a good state with something of everything in it, and the same with one thing changed.
+-- What the rows are computed on: tables, a good state with something of everything in it, and the same with one thing changed.
 use mathlib.Core.List.{List, [], _∷_}
 use Prim.Native.Nat.{ℕ, zero, suc}
-use lib.ListN.{set, replicate}
+use lib.ListN.{length, set}
+use Rattle.laws.specs.Lists.{padded}
 use Rattle.rules.specs.declared.Entry.{Entry}
 use Rattle.rules.specs.declared.Table.{Table}
 use Rattle.rules.specs.declared.Guest.{Guest as GuestPlace}
 use Rattle.rules.specs.declared.Spare.{Spare as SparePlace}
 use Rattle.rules.specs.declared.State.{State}
+use Rattle.rules.specs.Limits.{guestPlaces}
+use Rattle.rules.specs.Table.{noEntry}
 use Rattle.rules.specs.Model.{Guest, guest, Spare, spare, Model}
 use Rattle.rules.specs.Places.{packed}
+
+-- ---- how a table is written
+
+-- a guest (Q, T)
+infix 68 _by_
+abbrev pub _by_ : ℕ → ℕ → Entry
+Q by T = record { budget = Q; period = T }
+
+-- a table of guests
+abbrev pub table : ℕ → List Entry → Table
+table H es = record { frame = H; count = length es; entries = padded guestPlaces noEntry es }
+
+-- "Where one guest is named without H, H is its T."
+abbrev pub alone : ℕ → ℕ → Table
+alone Q T = table T (Q by T ∷ [])
+
+-- (3, 4) and (2, 8), H = 8
+abbrev pub two : Table
+two = table 8 (3 by 4 ∷ 2 by 8 ∷ [])
 
 -- ---- the sample
 

@@ -2,33 +2,18 @@
 use mathlib.Core.Path.{_≡_}
 use mathlib.Core.List.{List, [], _∷_, _++_, map}
 use Prim.Native.Nat.{ℕ, zero, suc}
-use lib.ListN.{length}
-use Rattle.laws.specs.Lists.{padded}
-use Rattle.rules.specs.declared.Entry.{Entry}
 use Rattle.rules.specs.declared.Table.{Table}
 use Rattle.rules.specs.declared.State.{State}
-use Rattle.rules.specs.Limits.{guestPlaces, lastTick}
+use Rattle.rules.specs.Limits.{lastTick}
 use Rattle.rules.specs.Refusals.{first}
-use Rattle.rules.specs.Table.{tableRows, sharesOf, noEntry}
+use Rattle.rules.specs.Table.{tableRows, sharesOf}
 use Rattle.rules.specs.Model.{guest, jobsOf, leftOf, deadlineOf, dueOf, capacityOf}
 use Rattle.rules.specs.Places.{model, packed, freshState}
 use Rattle.rules.specs.Calls.{named, Call, arrives, finishes, advances, numberGiven, stateAfter, run}
+use Rattle.rules.specs.Samples.{_by_, table, alone, two}
 use Rattle.rules.specs.Lines.{Line, line, own, spareOf, burned, idle, listing}
 
 -- ---- how a row is written
-
--- a guest (Q, T)
-infix 68 _by_
-abbrev pub _by_ : ℕ → ℕ → Entry
-Q by T = record { budget = Q; period = T }
-
--- a table of guests
-abbrev pub table : ℕ → List Entry → Table
-table H es = record { frame = H; count = length es; entries = padded guestPlaces noEntry es }
-
--- "Where one guest is named without H, H is its T."
-abbrev pub alone : ℕ → ℕ → Table
-alone Q T = table T (Q by T ∷ [])
 
 -- the state after calls from a fresh one
 unfoldable pub after : Table → List Call → State
@@ -71,10 +56,6 @@ pub record Border : Type 0 where
   pub expected : Shown
 
 -- ---- the tables, and the listing's calls
-
--- (3, 4) and (2, 8), H = 8
-abbrev pub two : Table
-two = table 8 (3 by 4 ∷ 2 by 8 ∷ [])
 
 -- the listing's input lines behind its table
 abbrev pub listingCalls : List Call
