@@ -10,6 +10,7 @@ pub mod Keeping
 pub mod Legal
 pub mod Listed
 pub mod Mask
+pub mod Meant
 pub mod Needed
 pub mod Outcomes
 pub mod Owed

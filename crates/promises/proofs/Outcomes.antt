@@ -16,6 +16,8 @@ use Rattle.rules.specs.declared.State.{State}
 use Rattle.rules.specs.declared.Source.the-variants.{Own, SpareOf}
 use Rattle.rules.specs.declared.Next.{Next}
 use Rattle.rules.specs.declared.Next.the-variants.{Run, Burn, Nothing}
+use Rattle.rules.specs.declared.Used.{Used}
+use Rattle.rules.specs.declared.Used.the-variants.{Own as Used-Own, SpareOf as Used-SpareOf, Burned, Idle}
 use Rattle.rules.specs.declared.Walk.{Walk}
 use Rattle.rules.specs.Limits.{portionPlaces}
 use Rattle.rules.specs.Refusals.{Row, first, refusalNumber, numberOf}
@@ -24,8 +26,8 @@ use Rattle.rules.specs.Model.{Model}
 use Rattle.rules.specs.Places.{noState}
 use Rattle.rules.specs.Steps.{Portion, onOwn, onSpare, burning, nothing}
 use Rattle.rules.specs.Calls.{told, kept, advanceRows, portionOf, Moved}
-use Rattle.rules.specs.Lines.{Line}
-use Rattle.rules.specs.Walks.{portionPlace, noPortion, walkLines, walkState, walkLeft, Walked}
+use Rattle.rules.specs.Lines.{Use, own, spareOf, burned, idle, Line}
+use Rattle.rules.specs.Walks.{usedOf, useIn, portionPlace, noPortion, walkLines, walkState, walkLeft, Walked}
 use Rattle.promises.specs.Promises.{AnswersDetermined, OneOutcome, RefusalGivesBack}
 
 -- ---- the answers
@@ -92,8 +94,23 @@ next-back Nothing = refl
 next-same : (x y : Next) → portionOf x ≡ portionOf y → x ≡ y
 next-same x y e = sym (next-back x) ∙ ap nextOf e ∙ next-back y
 
+use-back : (x : Used) → usedOf (useIn x) ≡ x
+use-back (Used-Own i) = refl
+use-back (Used-SpareOf i owner) = refl
+use-back (Burned owner) = refl
+use-back Idle = refl
+
+use-same : (x y : Used) → useIn x ≡ useIn y → x ≡ y
+use-same x y e = sym (use-back x) ∙ ap usedOf e ∙ use-back y
+
+use-said : (u : Use) → useIn (usedOf u) ≡ u
+use-said (own i) = refl
+use-said (spareOf i owner) = refl
+use-said (burned owner) = refl
+use-said idle = refl
+
 pub answers-determined : AnswersDetermined
-answers-determined = record { number = answer-same; portion = next-same }
+answers-determined = record { number = answer-same; portion = next-same; use-of = use-same; use-said = use-said }
 
 -- ---- the calls
 

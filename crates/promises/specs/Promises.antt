@@ -1,11 +1,11 @@
 -- Every promise of the rules as a named statement; proofs/ proves each under the same name with small letters.
 use mathlib.Core.Path.{_≡_}
-use mathlib.Core.Bool.{Bool, true, false}
+use mathlib.Core.Bool.{Bool, true, false, cond}
 use mathlib.Core.List.{List, [], _∷_, map}
 use mathlib.Core.Logic.{_↔_}
-use Prim.Native.Nat.{ℕ, zero, suc, _+_, _≤_, _<_}
+use Prim.Native.Nat.{ℕ, zero, suc, _+_, _/_, _%_, _≤_, _<_}
 use lib.Count.{ones}
-use lib.IntN.{pos}
+use lib.IntN.{pos, _+ℤ_}
 use lib.ListN.{length, take, drop, replicate}
 use lib.Pow.{areBytes}
 use Rattle.rules.specs.declared.Table.{Table}
@@ -18,6 +18,7 @@ use Rattle.rules.specs.declared.Asked.{Asked}
 use Rattle.rules.specs.declared.Activity.{Activity}
 use Rattle.rules.specs.declared.Margin.{Margin}
 use Rattle.rules.specs.declared.Loaded.{Loaded}
+use Rattle.rules.specs.declared.Used.{Used}
 use Rattle.rules.specs.declared.Walk.{Walk}
 use Rattle.rules.specs.Limits.{lastTick, portionPlaces}
 use Rattle.rules.specs.Refusals.{Row, first, numbers, holds, numberOf}
@@ -28,7 +29,8 @@ use Rattle.rules.specs.Places.{model, packed, freshState, noState}
 use Rattle.rules.specs.Sound.{sound}
 use Rattle.rules.specs.Image.{offsetIn, tableIn, readRows, imageOf, imageLength, writeRows, overwritten}
 use Rattle.rules.specs.Calls.{named, arrives, arriveRows, doneRows, advanceRows, askRows, marginRows, portionOf, Arrived, Finished, Advanced, AskedFor, ActiveTold, MarginTold, Freshened, TableChecked, NoTableMade, TableRead, EntriesHanded, NumberTold, ImageChecked, TableWritten, Call, advances, numberGiven, stateAfter, run}
-use Rattle.rules.specs.Walks.{Walked, noPortion}
+use Rattle.rules.specs.Lines.{Use}
+use Rattle.rules.specs.Walks.{usedOf, useIn, Walked, noPortion}
 use Rattle.promises.specs.Runs.{afterAll, events, passed, ownTicks, lentTicks}
 use Rattle.promises.specs.Needed.{line212State, overfullRows, line212Rows}
 use Rattle.rules.specs.Samples.{alone}
@@ -244,6 +246,27 @@ TalliesGrow = (k : ℕ) (m : Model) → tallies (advance k m) ≡ tallies m + k
 abbrev pub OnesOfMask : Type 0
 OnesOfMask = (gs : List Guest) → ones (maskOf gs) ≡ activeCount gs
 
+-- bit i of a number
+unfoldable pub bit : ℕ → ℕ → ℕ
+bit zero n = n % 2
+bit (suc i) n = bit i (n / 2)
+
+-- the active ones among the guests
+unfoldable pub actives : List Guest → List Guest
+actives [] = []
+actives (g ∷ gs) = cond (active g) (g ∷ actives gs) (actives gs)
+
+-- "a mask, bit i for guest i, and the number of active guests": bit i of the answered mask is 1 if and only if guest i is active, for every i,
+-- and the answered count is how many of the guests are
+pub record ActivityMeant : Type 0 where
+  pub mask : (s : State) (r : Activity) → ActiveTold s r → numberOf (r .answer) ≡ 0 → (i : ℕ) → (bit i (r .mask) ≡ 1) ↔ (active (named s i) ≡ true)
+  pub count : (s : State) (r : Activity) → ActiveTold s r → numberOf (r .answer) ≡ 0 → r .count ≡ length (actives (model s .guests))
+
+-- "Margin of a guest is its deadline less the present tick": the answered margin and the present tick add up to the deadline
+abbrev pub MarginMeant : Type 0
+MarginMeant =
+    (s : State) (i : ℕ) (r : Margin) → MarginTold s i r → numberOf (r .answer) ≡ 0 → r .ticks +ℤ pos (s .now) ≡ pos (deadlineOf (named s i))
+
 -- ---- images
 
 -- "Reading those bytes gives the same table"
@@ -278,6 +301,8 @@ pub record RoundTrip : Type 0 where
 pub record AnswersDetermined : Type 0 where
   pub number : (a b : Answer) → numberOf a ≡ numberOf b → a ≡ b
   pub portion : (x y : Next) → portionOf x ≡ portionOf y → x ≡ y
+  pub use-of : (x y : Used) → useIn x ≡ useIn y → x ≡ y
+  pub use-said : (u : Use) → useIn (usedOf u) ≡ u
 
 -- any two outcomes that a call's predicate allows are equal
 pub record OneOutcome : Type 0 where

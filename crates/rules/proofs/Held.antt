@@ -314,6 +314,7 @@ unfolding sample lone goodTable arrive renewed next serve tick advance ask model
 walks-held =
     record {
       used = refl;
+      says = refl;
       empty = refl;
       ticks = refl;
       walked = record { answer = refl; state = refl; left = refl; count = refl; portions = refl };

@@ -89,7 +89,10 @@ pub record TableHeld : Type 0 where
   pub thirteen-and-fourteen : refused (counted 8 2 (5 by 4 ∷ 1 by 8 ∷ [])) ≡ 13
   -- 13 for an unused place beside 14
   pub unused-and-fourteen : refused (lastPlace 8 (9 by 8 ∷ []) (1 by 0)) ≡ 13
-  -- a table that no number refuses, and one
-  pub accepted : (goodTable (counted 8 1 (1 by 8 ∷ [])) ∷ goodTable (counted 8 1 (1 by 7 ∷ [])) ∷ []) ≡ true ∷ false ∷ []
+  -- a table that no number refuses, and one for each of 10, 12, 13, 14
+  pub accepted :
+      map goodTable
+      (counted 8 1 (1 by 8 ∷ []) ∷ counted 8 0 [] ∷ counted 0 1 (1 by 1 ∷ []) ∷ counted 8 1 (1 by 7 ∷ []) ∷ counted 8 1 (9 by 8 ∷ []) ∷ counted 24 2 (5 by 8 ∷ 10 by 24 ∷ []) ∷ [])
+      ≡ true ∷ false ∷ false ∷ false ∷ false ∷ false ∷ []
   -- "a refused table .. is all zeros"
   pub zeros : noTable ≡ record { frame = 0; count = 0; entries = sixteen (0 by 0) }

@@ -14,7 +14,7 @@ use Rattle.rules.specs.Steps.{onOwn, onSpare, burning, nothing}
 use Rattle.rules.specs.Places.{packed}
 use Rattle.rules.specs.Calls.{arrives, finishes, advances, asks, asksActive, asksMargin}
 use Rattle.rules.specs.Lines.{own, spareOf, burned, idle, line, useOf, ticksOn, lines, linesOf, listing}
-use Rattle.rules.specs.Walks.{ticksIn, usedOf, noPortion, walkLines, walkState, walkLeft, Walked}
+use Rattle.rules.specs.Walks.{ticksIn, usedOf, useIn, noPortion, walkLines, walkState, walkLeft, Walked}
 use Rattle.rules.specs.Samples.{running, resting, leftovers, sampleModel, sample, lone}
 use Rattle.rules.specs.HeldSteps.{of, at10, then}
 
@@ -45,6 +45,7 @@ pub record LinesHeld : Type 0 where
 -- a walk
 pub record WalksHeld : Type 0 where
   pub used : map usedOf (own 1 ∷ spareOf 1 4 ∷ burned 4 ∷ idle ∷ []) ≡ Own 1 ∷ SpareOf 1 4 ∷ Burned 4 ∷ Idle ∷ []
+  pub says : map useIn (Own 1 ∷ SpareOf 1 4 ∷ Burned 4 ∷ Idle ∷ []) ≡ own 1 ∷ spareOf 1 4 ∷ burned 4 ∷ idle ∷ []
   pub empty : noPortion ≡ portionIn 0 0 Idle
   -- the ticks of the first portions
   pub ticks : (ticksIn 0 7 sampleModel ∷ ticksIn 1 7 sampleModel ∷ ticksIn 2 7 sampleModel ∷ ticksIn 3 7 sampleModel ∷ ticksIn 3 0 sampleModel ∷ []) ≡ 0 ∷ 4 ∷ 5 ∷ 7 ∷ 0 ∷ []
