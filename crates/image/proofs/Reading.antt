@@ -2,7 +2,7 @@
 use mathlib.Core.Path.{_≡_, refl, sym, ap, _∙_}
 use mathlib.Core.List.{List, [], _∷_, _++_}
 use mathlib.Core.Bool.{true, not}
-use Prim.Native.Nat.{ℕ, zero, suc, _+_, _-_, _*_, _≤_, _<_}
+use Prim.Native.Nat.{ℕ, zero, suc, _+_, _-_, _*_, _≤_, _<_, _^_}
 use native.Mathlib.Numerals.{add-one}
 use native.Mathlib.Omega.{arith}
 use denote.Ref.{RefT, now}
@@ -28,16 +28,19 @@ use Rattle.promises.proofs.GoodTable.{not-outside}
 use Rattle.promises.proofs.Images.{entries-in-long, readable}
 use Rattle.promises.proofs.Outcomes.{one-outcome, refusal-counts, kept-back}
 use Rattle.reader.specs.declared.Trailer.{Trailer}
-use Rattle.reader.specs.Numbers.{numberAt, TrailerRead}
+use Rattle.reader.specs.Numbers.{numberAt, behindOf, TrailerRead}
 use Rattle.image.specs.Handing.{EntriesPart}
 use Rattle.image.specs.Loading.{Whole, Tested}
-use Rattle.reader.proofs.Laws.{number-in}
+use Rattle.reader.proofs.Laws.{number-in, behind-in}
 
 -- two numbers side by side are an entry
-pub entry-whole : (part : List ℕ) (at Q T : ℕ) → at + 8 ≤ length part → Q ≡ numberAt 4 at part → T ≡ numberAt 4 (at + 4) part → record { budget = Q; period = T } ≡ entryIn (drop at part)
-entry-whole part at Q T h q t =
+pub entry-whole :
+    (part : List ℕ) (at Q T : ℕ) → at + 8 ≤ length part → length part < 2 ^ 64 → Q ≡ numberAt 4 at part → T ≡ numberAt 4 (behindOf at 4) part
+    → record { budget = Q; period = T } ≡ entryIn (drop at part)
+entry-whole part at Q T h fits q t =
     let budget = q ∙ number-in part 4 at (omega arith) in
-    let period = t ∙ number-in part 4 (at + 4) (omega arith) ∙ ap (λ (l : List ℕ). field 4 0 l) (sym (drop-drop 4 at part)) in
+    let place = ap (λ (n : ℕ). numberAt 4 n part) (sym (behind-in at 4 (omega arith))) in
+    let period = t ∙ place ∙ number-in part 4 (at + 4) (omega arith) ∙ ap (λ (l : List ℕ). field 4 0 l) (sym (drop-drop 4 at part)) in
     λ i. record { budget = budget i; period = period i }
 
 -- one entry more

@@ -12,8 +12,8 @@ ghost use Rattle.image.specs.Loading.{Whole, Tested};
 use crate::store::store_entries;
 use crate::store::store_trailer;
 use reader::Trailer;
+use reader::read_entry;
 use reader::read_trailer;
-use reader::word_at;
 use rules::Answer;
 use rules::Entry;
 use rules::GUEST_PLACES;
@@ -25,15 +25,15 @@ use rules::Table;
 
 mod store;
 
+// The entry at a place of the part, read by moving a reader from its Q to its T.
 fn entry_at(part: &[u8], at: usize) -> Entry
     requires { ⌜ at + 8 ≤ length (now part) ⌝ }
     ensures { λ r. ⌜ r ≡ entryIn (drop at (now (part .entry))) ⌝ }
 {
-    let budget = word_at(part, at);
-    let period = word_at(part, at + 4);
+    let pair = read_entry(part, at);
     Entry {
-        budget: budget as u64,
-        period: period as u64,
+        budget: pair.budget as u64,
+        period: pair.period as u64,
     }
 }
 

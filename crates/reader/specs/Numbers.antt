@@ -6,6 +6,7 @@ use Prim.Native.Nat.{ℕ, _+_, _-_, _*_, _<_, _^_}
 use lib.Dec.{leb}
 use lib.ListN.{length}
 use Rattle.rules.specs.Image.{field, trailerAt}
+use Rattle.reader.specs.declared.Pair.{Pair}
 use Rattle.reader.specs.declared.Trailer.{Trailer}
 
 -- the number in `width` bytes at `at`, or 0 where they run past the end
@@ -27,7 +28,13 @@ pub record TrailerRead (image : List ℕ) (t : Trailer) : Type 0 where
   pub count : NumberRead 2 image (trailerAt image + 8) (t .count)
   pub edition : NumberRead 2 image (trailerAt image + 10) (t .edition)
 
+-- an entry's two numbers, one behind the other
+pub record EntryRead (part : List ℕ) (at : ℕ) (e : Pair) : Type 0 where
+  pub budget : NumberRead 4 part at (e .budget)
+  pub period : NumberRead 4 part (behindOf at 4) (e .period)
+
 -- any two answers that a predicate allows are equal
 pub record OneAnswer : Type 0 where
   pub number : (width : ℕ) (bytes : List ℕ) (at a b : ℕ) → NumberRead width bytes at a → NumberRead width bytes at b → a ≡ b
+  pub entry : (part : List ℕ) (at : ℕ) (a b : Pair) → EntryRead part at a → EntryRead part at b → a ≡ b
   pub trailer : (image : List ℕ) (a b : Trailer) → TrailerRead image a → TrailerRead image b → a ≡ b

@@ -1,5 +1,5 @@
 // Numbers of an image and of its trailer, for every image and every place.
-ghost use Rattle.reader.specs.Numbers.{NumberRead, TrailerRead};
+ghost use Rattle.reader.specs.Numbers.{NumberRead, EntryRead, TrailerRead};
 use crate::bytes::half_at;
 use crate::reader::half;
 use crate::reader::open;
@@ -16,6 +16,12 @@ pub struct Trailer {
     pub offset: usize,
     pub count: usize,
     pub edition: usize,
+}
+
+// The numbers of an entry: Q and T.
+pub struct Pair {
+    pub budget: usize,
+    pub period: usize,
 }
 
 // The number in 4 bytes at a place, or 0 where they run past the end.
@@ -51,4 +57,15 @@ pub fn read_trailer(image: &[u8]) -> Trailer
         count,
         edition,
     }
+}
+
+// The numbers of the entry at a place, read one behind the other.
+pub fn read_entry(part: &[u8], at: usize) -> Pair
+    ensures { λ r. ⌜ EntryRead (now (part .entry)) at r ⌝ }
+{
+    let first = open(part, at);
+    let budget = word(first);
+    let next = past(first, 4);
+    let period = word(next);
+    Pair { budget, period }
 }

@@ -1,7 +1,7 @@
 -- `reader::read_trailer` meets its contract: a walk of its MIR, by hand. A reader is opened at the trailer's place; a number is read, and the reader moved on behind it, until all four are read. All that the proof knows of the functions called is that they meet their contracts.
 -- What image owns is kept for the exit. A reader is Copy: what it owns is had twice, once for the number that is read there and once for the reader behind it.
 -- Assumes nothing.
-use mathlib.Core.Path.{_≡_, ap, ap₂, refl, sym, _∙_}
+use mathlib.Core.Path.{_≡_, ap, refl, _∙_}
 use Prim.Native.Nat.{ℕ, _+_, _<_, _^_}
 use native.Mathlib.Omega.{arith}
 use mathlib.Core.List.{List, [], _∷_}
@@ -41,11 +41,11 @@ use denote.Triple.Walked.{says, Stays, stay-none-slice, walkOf, goes-none-slice,
 use denote.Exit.{yes}
 use denote.Triple.Clauses.{lasts}
 use Rattle.rules.specs.Image.{trailerAt}
-use Rattle.reader.specs.Numbers.{numberAt, behindOf, NumberRead, TrailerRead}
+use Rattle.reader.specs.Numbers.{TrailerRead}
 use Rattle.reader.specs.declared.reader.Reader.{Reader}
 use Rattle.reader.specs.declared.Trailer.{Trailer}
 use Rattle.reader.proofs.Walks.{B, token, held, enters, passes, passes-copy, passes-number, hears}
-use Rattle.reader.proofs.Laws.{behind-in}
+use Rattle.reader.proofs.Moving.{Opened, Word, Half, Past, Number, Moved, At, number, moved}
 use Rattle.reader.proofs.Trailer as R
 use Rattle.reader.proofs.Trailer.Laws as R′
 use Rattle.reader.proofs.reader.trailer_place as place
@@ -77,58 +77,29 @@ abbrev stayed : Stays (reads.ended .signature .params) (reads.ended .kept)
 stayed = (stay-none-slice (0 ∷ []) tt (plain (λ _. u8)) yes, tt)
 
 module _ {M : Type 1} (𝓤 : URA M) (H : Heap 𝓤) (A : Atoms 𝓤) (mem : Memory → SProp 𝓤) (run : Routine → Fun 𝓤) where
-  -- the contracts that the proof cites
+  -- the contract of `trailer_place`
   abbrev Place : Contract 𝓤
   Place = tripleOf 𝓤 H A place.signature (place.spec 𝓤 H A mem run)
 
-  abbrev Opened : Contract 𝓤
-  Opened = tripleOf 𝓤 H A opened.signature (opened.spec 𝓤 H A mem run)
-
-  abbrev Word : Contract 𝓤
-  Word = tripleOf 𝓤 H A word.signature (word.spec 𝓤 H A mem run)
-
-  abbrev Half : Contract 𝓤
-  Half = tripleOf 𝓤 H A half.signature (half.spec 𝓤 H A mem run)
-
-  abbrev Past : Contract 𝓤
-  Past = tripleOf 𝓤 H A past.signature (past.spec 𝓤 H A mem run)
-
--- what `word` and `half` say of their result t, and `past` of its own, r′
-abbrev Number : ℕ → Reader → ℕ → Type 0
-Number width r = NumberRead width (now (r .image)) (r .at)
-
-abbrev Moved : Reader → ℕ → Reader → Type 0
-Moved r width r′ = (r′ .image ≡ r .image) × (r′ .at ≡ behindOf (r .at) width)
-
 module _ (s : RefT (List ℕ)) where
-  -- what `trailer_place` says of its result, and `open` of its own
+  -- what `trailer_place` says of its result
   abbrev Starts : ℕ → Type 0
   Starts p = (p ≡ trailerAt (now s)) × (p + 12 < 2 ^ 64)
 
-  abbrev At : Reader → ℕ → Type 0
-  At r at = (r .image ≡ s) × (r .at ≡ at)
-
-  -- so a reader that stands at a place of s reads the number there, and moves on to the place behind it
-  number : (width at : ℕ) (r : Reader) {t : ℕ} → At r at → Number width r t → NumberRead width (now s) at t
-  number width at r h e = (e .0 ∙ ap₂ (λ (x : RefT (List ℕ)) (n : ℕ). numberAt width n (now x)) (h .0) (h .1), e .1)
-
-  moved : (at width next : ℕ) (r r′ : Reader) → at + width < 2 ^ 64 → at + width ≡ next → At r at → Moved r width r′ → At r′ next
-  moved at width next r r′ fits e h f = (f .0 ∙ h .0, f .1 ∙ ap (λ (n : ℕ). behindOf n width) (h .1) ∙ sym (behind-in at width fits) ∙ e)
-
-  module _ (p : ℕ) (e₀ : Starts p) (r₁ r₂ r₃ r₄ : Reader) (m₁ : At r₁ p) (m₂ : Moved r₁ 4 r₂) (m₃ : Moved r₂ 4 r₃) (m₄ : Moved r₃ 2 r₄) where
+  module _ (p : ℕ) (e₀ : Starts p) (r₁ r₂ r₃ r₄ : Reader) (m₁ : At s r₁ p) (m₂ : Moved r₁ 4 r₂) (m₃ : Moved r₂ 4 r₃) (m₄ : Moved r₃ 2 r₄) where
     all-read : {t₁ t₂ t₃ t₄ : ℕ} → Number 4 r₁ t₁ → Number 4 r₂ t₂ → Number 2 r₃ t₃ → Number 2 r₄ t₄
         → TrailerRead (now s) (record { frame = t₁; offset = t₂; count = t₃; edition = t₄ })
     all-read {t₁} {t₂} {t₃} {t₄} e₁ e₂ e₃ e₄ =
         let at = trailerAt (now s) in
-        let h₁ : At r₁ at = (m₁ .0, m₁ .1 ∙ e₀ .0) in
-        let h₂ = moved at 4 (at + 4) r₁ r₂ (omega (arith, e₀)) (omega arith) h₁ m₂ in
-        let h₃ = moved (at + 4) 4 (at + 8) r₂ r₃ (omega (arith, e₀)) (omega arith) h₂ m₃ in
-        let h₄ = moved (at + 8) 2 (at + 10) r₃ r₄ (omega (arith, e₀)) (omega arith) h₃ m₄ in
+        let h₁ : At s r₁ at = (m₁ .0, m₁ .1 ∙ e₀ .0) in
+        let h₂ = moved s at 4 (at + 4) r₁ r₂ (omega (arith, e₀)) (omega arith) h₁ m₂ in
+        let h₃ = moved s (at + 4) 4 (at + 8) r₂ r₃ (omega (arith, e₀)) (omega arith) h₂ m₃ in
+        let h₄ = moved s (at + 8) 2 (at + 10) r₃ r₄ (omega (arith, e₀)) (omega arith) h₃ m₄ in
         record {
-          frame = number 4 at r₁ h₁ e₁;
-          offset = number 4 (at + 4) r₂ h₂ e₂;
-          count = number 2 (at + 8) r₃ h₃ e₃;
-          edition = number 2 (at + 10) r₄ h₄ e₄;
+          frame = number s 4 at r₁ h₁ e₁;
+          offset = number s 4 (at + 4) r₂ h₂ e₂;
+          count = number s 2 (at + 8) r₃ h₃ e₃;
+          edition = number s 2 (at + 10) r₄ h₄ e₄;
         }
 
 module _ {M : Type 1} (𝓤 : URA M) (H : Heap 𝓤) (A : Atoms 𝓤) (W : Given 𝓤 H A) (mem : Memory → SProp 𝓤) (run : Routine → Fun 𝓤) (κ : Lft) (q : Share) (s : RefT (List ℕ)) where
