@@ -8,7 +8,7 @@ use Rattle.rules.specs.Image.{tableIn, imageOf}
 use Rattle.rules.specs.Calls.{stateAfter, run}
 use Rattle.rules.specs.Lines.{lines, linesOf, listing}
 use Rattle.rules.specs.Walks.{ticksIn, walkLines, walkState, walkLeft}
-use Rattle.rules.specs.Samples.{sample, withFirst, withSecond, withSpares, withIdle, withLastGuest, withLastSpare, withCount, withTable, lone, row, crowded}
+use Rattle.rules.specs.Samples.{sample, withFirst, withSecond, withSpares, withIdle, withLastGuest, withLastSpare, withCount, withTable, lone, row, crowded, overcounted}
 use Rattle.rules.specs.HeldTable.{RefusalsHeld, TableHeld}
 use Rattle.rules.specs.HeldSound.{SoundHeld}
 use Rattle.rules.specs.HeldSteps.{ModelHeld, CallsStepHeld, TickHeld, AskHeld, PlacesHeld}
@@ -69,7 +69,7 @@ table-held =
     }
 
 pub sound-held : SoundHeld
-unfolding sample withFirst withSecond withSpares withIdle withLastGuest withLastSpare withCount withTable lone row crowded goodTable model packed inRange sound
+unfolding sample withFirst withSecond withSpares withIdle withLastGuest withLastSpare withCount withTable lone row crowded overcounted goodTable model packed inRange sound
 sound-held =
     record {
       kept = refl;
@@ -256,6 +256,7 @@ outcomes-held =
       arrive = record { answer = refl; state = refl };
       arrive-refused = record { answer = refl; state = refl };
       done = record { answer = refl; state = refl };
+      done-second = record { answer = refl; state = refl };
       done-refused = record { answer = refl; state = refl };
       advance = record { answer = refl; state = refl };
       advance-refused = record { answer = refl; state = refl };
@@ -267,6 +268,7 @@ outcomes-held =
       active = record { answer = refl; mask = refl; count = refl };
       active-refused = record { answer = refl; mask = refl; count = refl };
       margin = record { answer = refl; ticks = refl };
+      margin-second = record { answer = refl; ticks = refl };
       margin-at = record { answer = refl; ticks = refl };
       margin-below = record { answer = refl; ticks = refl };
       margin-refused = record { answer = refl; ticks = refl };
@@ -331,7 +333,7 @@ image-held =
       little-endian = refl;
       at-a-place = refl;
       numbers = refl;
-      two-bytes = refl;
+      every-byte = refl;
       entries = refl;
       part = refl;
       table = refl;
@@ -369,6 +371,7 @@ writing-held =
       wrote = record { answer = refl; content = refl };
       wrote-refused = record { answer = refl; content = refl };
     }
+
 
 -- only the length decides on 8
 pub length-held : LengthHeld

@@ -68,6 +68,7 @@ pub record OutcomesHeld : Type 0 where
   pub arrive : Arrived sample 1 (record { answer = Went; state = packed (then 10 (running ∷ guest 4 8 1 4 28 2 1 ∷ []) leftovers 1 2) })
   pub arrive-refused : Arrived sample 2 (record { answer = Refused NoSuchGuest; state = sample })
   pub done : Finished sample 0 (record { answer = Went; state = packed (then 10 (guest 3 12 1 2 30 3 1 ∷ resting ∷ []) leftovers 1 2) })
+  pub done-second : Finished exchanged 1 (record { answer = Went; state = packed (then 10 (guest 3 12 0 0 30 3 1 ∷ guest 4 8 4 4 28 2 1 ∷ []) leftovers 1 2) })
   pub done-refused : Finished sample 1 (record { answer = Refused GuestIdle; state = sample })
   -- 4 ticks on the first spare and 1 on the second
   pub advance : Advanced sample 5 (record { answer = Went; state = packed (then 15 (guest 3 12 2 2 30 3 6 ∷ resting ∷ []) (spare 24 0 3 ∷ []) 1 2) })
@@ -80,6 +81,7 @@ pub record OutcomesHeld : Type 0 where
   pub active : ActiveTold exchanged (record { answer = Went; mask = 2; count = 1 })
   pub active-refused : ActiveTold damaged (record { answer = Refused NotSound; mask = 0; count = 0 })
   pub margin : MarginTold sample 0 (record { answer = Went; ticks = pos 20 })
+  pub margin-second : MarginTold sample 1 (record { answer = Went; ticks = pos 10 })
   pub margin-at : MarginTold (lone 7 0 0 7) 0 (record { answer = Went; ticks = pos 0 })
   pub margin-below : MarginTold (lone 10 0 0 7) 0 (record { answer = Went; ticks = negsuc 2 })
   pub margin-refused : MarginTold sample 2 (record { answer = Refused NoSuchGuest; ticks = pos 0 })

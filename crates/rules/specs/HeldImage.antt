@@ -48,7 +48,9 @@ pub record ImageHeld : Type 0 where
   pub at-a-place : field 2 1 (9 ∷ 1 ∷ 2 ∷ 9 ∷ []) ≡ 513
   -- "a trailer of 12 bytes that ends the image: H (4), offset of the first entry from the image's start (4), n (2), edition (2)"
   pub numbers : (trailerAt behindThree ∷ frameIn behindThree ∷ offsetIn behindThree ∷ countIn behindThree ∷ editionIn behindThree ∷ []) ≡ 11 ∷ 1000000 ∷ 3 ∷ 1 ∷ 1 ∷ []
-  pub two-bytes : (let image = replicate 8 0 ++ (0 ∷ 0 ∷ 0 ∷ 0 ∷ 0 ∷ 1 ∷ 2 ∷ 3 ∷ 4 ∷ 5 ∷ 6 ∷ 7 ∷ []) in offsetIn image ∷ countIn image ∷ editionIn image ∷ []) ≡ 50462976 ∷ 1284 ∷ 1798 ∷ []
+  pub every-byte :
+      (let image = replicate 8 0 ++ (8 ∷ 9 ∷ 10 ∷ 11 ∷ 0 ∷ 1 ∷ 2 ∷ 3 ∷ 4 ∷ 5 ∷ 6 ∷ 7 ∷ []) in frameIn image ∷ offsetIn image ∷ countIn image ∷ editionIn image ∷ [])
+      ≡ 185207048 ∷ 50462976 ∷ 1284 ∷ 1798 ∷ []
   -- "n entries of 8 bytes: Q in 4 bytes, T in 4"
   pub entries : entriesIn 2 (entry ++ short 3 4 ++ short 2 8) ≡ 66051 by 1000000 ∷ 3 by 4 ∷ []
   -- "the entries as a part of the caller's own image", at an offset above 0

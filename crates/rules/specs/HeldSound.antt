@@ -9,7 +9,7 @@ use Rattle.rules.specs.declared.State.{State}
 use Rattle.rules.specs.Model.{guest, spare}
 use Rattle.rules.specs.Places.{packed}
 use Rattle.rules.specs.Sound.{sound}
-use Rattle.rules.specs.Samples.{_by_, table, running, resting, leftovers, sampleOf, sample, withFirst, withSecond, withSpares, withIdle, withLastGuest, withLastSpare, withCount, withTable, lone, crowded}
+use Rattle.rules.specs.Samples.{_by_, table, running, resting, leftovers, sampleOf, sample, withFirst, withSecond, withSpares, withIdle, withLastGuest, withLastSpare, withCount, withTable, lone, crowded, overcounted}
 use Rattle.rules.specs.HeldTable.{counted, lastPlace, sixteen}
 
 -- a guest's place
@@ -43,7 +43,7 @@ pub record SoundHeld : Type 0 where
   -- "An idle guest has c = 0."
   pub idle : sounds (withSecond (guest 4 8 0 0 20 2 1) ∷ withSecond (guest 4 8 0 1 20 2 1) ∷ []) ≡ true ∷ false ∷ []
   -- "At most 64 spares."
-  pub spares : sounds (crowded 64 0 0 64 ∷ withCount 3 ∷ withCount 65 ∷ []) ≡ true ∷ true ∷ false ∷ []
+  pub spares : sounds (crowded 64 0 0 64 ∷ overcounted ∷ []) ≡ true ∷ false ∷ []
   -- "an owner (a guest number below n)"
   pub owner : sounds (withSpares (spare 16 1 1 ∷ []) ∷ withSpares (spare 16 2 1 ∷ []) ∷ []) ≡ true ∷ false ∷ []
   -- "a capacity from 1 to the owner's Q"

@@ -122,3 +122,8 @@ row (suc n) d = spare d 0 1 ∷ row n (suc d)
 unfoldable pub crowded : ℕ → ℕ → ℕ → ℕ → State
 unfolding packed row
 crowded n jobs c d = packed (record { frame = 1; now = 0; guests = guest 1 1 jobs c d 0 0 ∷ []; spares = row n 1; burned = 0; idle = 0 })
+
+-- the same with 64 spares, and one more counted
+unfoldable pub overcounted : State
+unfolding crowded
+overcounted = let s = crowded 64 0 0 64 in placed s (s .table) (s .guests) 65 (s .spares)
