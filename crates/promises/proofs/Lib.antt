@@ -4,6 +4,7 @@ pub mod Calling
 pub mod Choosing
 pub mod Facts
 pub mod GoodTable
+pub mod Held
 pub mod Histories
 pub mod Images
 pub mod Keeping

@@ -6,3 +6,4 @@ pub mod Borders
 pub mod Needed
 pub mod Promises
 pub mod Histories
+pub mod Held

@@ -372,7 +372,6 @@ writing-held =
       wrote-refused = record { answer = refl; content = refl };
     }
 
-
 -- only the length decides on 8
 pub length-held : LengthHeld
 length-held =

@@ -1,0 +1,86 @@
+-- The rows of the promises' words hold: by computing, and where a row is a statement, by its numbers.
+use mathlib.Core.Path.{_≡_, refl}
+use mathlib.Core.List.{[], _∷_}
+use Prim.Native.Nat.{ℕ, zero, suc, _<_}
+use native.Mathlib.Omega.{arith}
+use Rattle.rules.specs.Table.{goodTable}
+use Rattle.rules.specs.Model.{leftOf, deadlineOf, guestAt, capacityOf, dueOf, spareAt, spare}
+use Rattle.rules.specs.Steps.{onOwn, arrive, done, renewed, next, serve, tick, advance, ask}
+use Rattle.rules.specs.Places.{model, packed}
+use Rattle.rules.specs.Sound.{inRange, sound}
+use Rattle.rules.specs.Calls.{stateAfter}
+use Rattle.rules.specs.Lines.{lines}
+use Rattle.rules.specs.Walks.{ticksIn, walkLines, walkState, walkLeft}
+use Rattle.rules.specs.Samples.{sample, lone}
+use Rattle.rules.specs.HeldSteps.{of}
+use Rattle.promises.specs.Joining.{joined, walkedTo, leftAfter, uses}
+use Rattle.promises.specs.Spans.{whose}
+use Rattle.promises.specs.Runs.{afterAll, eventsOf, events, counted}
+use Rattle.promises.specs.Promises.{bit, actives}
+use Rattle.promises.specs.Held.{JoiningHeld, SpansHeld, RunsHeld, WordsHeld}
+
+pub joining-held : JoiningHeld
+unfolding sample lone goodTable renewed next serve tick advance ask model packed inRange sound lines ticksIn walkLines walkState walkLeft joined walkedTo leftAfter uses
+joining-held =
+    record {
+      left = refl;
+      reached = refl;
+      portions = refl;
+      two-walks = refl;
+      each-tick = refl;
+      of-a-portion = refl;
+    }
+
+pub spans-held : SpansHeld
+unfolding renewed next serve tick advance ask
+spans-held =
+    record {
+      fewer = refl;
+      same = refl;
+      within-own = (omega arith, λ h. omega arith);
+      within-spare = (omega arith, λ h. omega arith);
+      within-burning = (omega arith, λ h. omega arith);
+      over = λ e. let d : _≡_ {A = ℕ} 32 20 = cc in omega arith;
+      not-over = λ h. h refl;
+    }
+
+pub runs-held : RunsHeld
+unfolding sample lone goodTable arrive done renewed next serve tick advance ask model packed inRange sound stateAfter afterAll eventsOf events counted
+runs-held =
+    record {
+      arrival-made = refl;
+      completion-made = refl;
+      tick-made = refl;
+      steps = refl;
+      refused-steps = refl;
+      handed-on = refl;
+      all-steps = refl;
+      inside = refl;
+      own-tick = refl;
+      spare-tick = refl;
+      counts = refl;
+    }
+
+-- a guest and a spare with deadline 11 at tick 10, and places with neither
+budget-ahead : (i : ℕ) → 0 < leftOf (guestAt i (of 1 1 11 ∷ [])) → 10 < deadlineOf (guestAt i (of 1 1 11 ∷ []))
+budget-ahead zero h = omega arith
+budget-ahead (suc i) h = absurd (omega arith)
+
+spare-ahead : (k : ℕ) → 0 < capacityOf (spareAt k (spare 11 0 1 ∷ [])) → 10 < dueOf (spareAt k (spare 11 0 1 ∷ []))
+spare-ahead zero h = omega arith
+spare-ahead (suc k) h = absurd (omega arith)
+
+pub words-held : WordsHeld
+unfolding bit actives
+words-held =
+    record {
+      can-run = refl;
+      none-by = (tt, omega arith, λ h. omega arith);
+      ahead = (budget-ahead, spare-ahead);
+      budget-overdue = λ h. let late : 11 < 11 = h .0 0 (omega arith) in omega arith;
+      spare-overdue = λ h. let late : 11 < 11 = h .1 0 (omega arith) in omega arith;
+      walk-made = refl;
+      walk-refused = refl;
+      bits = refl;
+      active-ones = refl;
+    }

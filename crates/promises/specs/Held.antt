@@ -1,0 +1,76 @@
+-- Rows that hold the words of the promises: what each of them says of written-out numbers.
+use mathlib.Core.Path.{_≡_}
+use mathlib.Core.Bool.{true, false}
+use mathlib.Core.List.{List, [], _∷_, map}
+use Prim.Native.Nat.{ℕ}
+use lib.ListN.{length}
+use Rattle.rules.specs.declared.Refusal.the-variants.{EndOfTime}
+use Rattle.rules.specs.declared.Answer.the-variants.{Went, Refused}
+use Rattle.rules.specs.Model.{guest, spare, Model}
+use Rattle.rules.specs.Steps.{Portion, onOwn, onSpare, burning, nothing}
+use Rattle.rules.specs.Calls.{arrives, finishes, advances, asks, asksActive, asksMargin}
+use Rattle.rules.specs.Lines.{own, spareOf, idle, line}
+use Rattle.rules.specs.Samples.{running, resting, leftovers, sampleModel, sample, lone}
+use Rattle.rules.specs.HeldSteps.{four, of, at10, then}
+use Rattle.promises.specs.Joining.{joined, walkedTo, leftAfter, uses, ticksOf}
+use Rattle.promises.specs.Spans.{shorter, Within, whose, Ends}
+use Rattle.promises.specs.Runs.{arrival, completion, oneTick, happen, afterAll, events, passed, ownTick, lentTick, ownTicks, lentTicks}
+use Rattle.promises.specs.Promises.{canRun, NoneBy, NothingOverdue, bit, actives}
+use Rattle.promises.specs.Histories.{walkCall}
+
+-- walks one after the other: a guest (1, 1) has a portion in each tick, and a walk answers 64
+pub record JoiningHeld : Type 0 where
+  pub left : (leftAfter 0 65 (lone 0 1 1 1) ∷ leftAfter 1 65 (lone 0 1 1 1) ∷ leftAfter 2 65 (lone 0 1 1 1) ∷ []) ≡ 65 ∷ 1 ∷ 0 ∷ []
+  pub reached : (walkedTo 1 65 (lone 0 1 1 1) .now ∷ walkedTo 2 65 (lone 0 1 1 1) .now ∷ []) ≡ 64 ∷ 65 ∷ []
+  pub portions : (length (joined 1 65 (lone 0 1 1 1)) ∷ length (joined 2 65 (lone 0 1 1 1)) ∷ []) ≡ 64 ∷ 65 ∷ []
+  pub two-walks : joined 2 7 sample ≡ line 10 14 (spareOf 0 1) ∷ line 14 15 (spareOf 0 1) ∷ line 15 17 (spareOf 0 0) ∷ []
+  -- what each tick uses, and a portion as its ticks
+  pub each-tick : uses 6 sampleModel ≡ spareOf 0 1 ∷ spareOf 0 1 ∷ spareOf 0 1 ∷ spareOf 0 1 ∷ spareOf 0 1 ∷ spareOf 0 0 ∷ []
+  pub of-a-portion : ticksOf (line 3 5 (own 1) ∷ line 5 6 idle ∷ []) ≡ own 1 ∷ own 1 ∷ idle ∷ []
+
+-- a portion that gets shorter
+pub record SpansHeld : Type 0 where
+  pub fewer : map (shorter 2) (onOwn 1 9 5 ∷ onSpare 1 4 9 5 ∷ burning 4 9 5 ∷ nothing ∷ []) ≡ onOwn 1 9 3 ∷ onSpare 1 4 9 3 ∷ burning 4 9 3 ∷ nothing ∷ []
+  pub same : map whose (onOwn 1 9 5 ∷ onSpare 1 4 9 5 ∷ burning 4 9 5 ∷ nothing ∷ []) ≡ onOwn 1 9 0 ∷ onSpare 1 4 9 0 ∷ burning 4 9 0 ∷ nothing ∷ []
+  -- fewer ticks than the span, and as many
+  pub within-own : Within 4 (onOwn 1 9 5) × (Within 5 (onOwn 1 9 5) → ⊥)
+  pub within-spare : Within 4 (onSpare 1 4 9 5) × (Within 5 (onSpare 1 4 9 5) → ⊥)
+  pub within-burning : Within 4 (burning 4 9 5) × (Within 5 (burning 4 9 5) → ⊥)
+  -- a budget of 2 is over after 2 ticks, and neither after 1 nor if it had 3
+  pub over : Ends (at10 (of 1 2 20 ∷ []) []) (onOwn 0 20 2)
+  pub not-over : Ends (at10 (of 1 2 20 ∷ []) []) (onOwn 0 20 1) → ⊥
+
+-- the single steps of calls, and the ticks that a guest runs in them
+pub record RunsHeld : Type 0 where
+  pub arrival-made : happen (arrival 1) sampleModel ≡ then 10 (running ∷ guest 4 8 1 4 28 2 1 ∷ []) leftovers 1 2
+  pub completion-made : happen (completion 0) sampleModel ≡ then 10 (guest 3 12 1 2 30 3 1 ∷ resting ∷ []) leftovers 1 2
+  pub tick-made : happen oneTick sampleModel ≡ then 11 (guest 3 12 2 2 30 3 2 ∷ resting ∷ []) (spare 16 1 3 ∷ spare 20 1 1 ∷ spare 24 0 3 ∷ []) 1 2
+  -- a refused call and a question make none
+  pub steps : events (advances 2 ∷ arrives 2 ∷ asks ∷ asksActive ∷ asksMargin 0 ∷ finishes 0 ∷ finishes 1 ∷ arrives 1 ∷ []) sample ≡ oneTick ∷ oneTick ∷ completion 0 ∷ arrival 1 ∷ []
+  pub refused-steps : events (advances 1 ∷ []) (lone 1099511627776 0 0 0) ≡ []
+  -- each call on the state that the last one left
+  pub handed-on : events (finishes 0 ∷ finishes 0 ∷ finishes 0 ∷ []) sample ≡ completion 0 ∷ completion 0 ∷ []
+  pub all-steps : afterAll (completion 0 ∷ oneTick ∷ []) sampleModel ≡ then 11 (guest 3 12 1 2 30 3 2 ∷ resting ∷ []) (spare 16 1 3 ∷ spare 20 1 1 ∷ spare 24 0 3 ∷ []) 1 2
+  pub inside : passed 3 (advances 7 ∷ []) sample .now ≡ 13
+  pub own-tick : map (ownTick 1) (onOwn 1 9 5 ∷ onOwn 0 9 5 ∷ onSpare 1 4 9 5 ∷ burning 1 9 5 ∷ nothing ∷ []) ≡ 1 ∷ 0 ∷ 0 ∷ 0 ∷ 0 ∷ []
+  pub spare-tick : map (lentTick 1) (onSpare 1 4 9 5 ∷ onSpare 0 1 9 5 ∷ onOwn 1 9 5 ∷ burning 1 9 5 ∷ nothing ∷ []) ≡ 1 ∷ 0 ∷ 0 ∷ 0 ∷ 0 ∷ []
+  -- guest 0 runs 8 ticks on spares and then on its own budget, a completion and an arrival among them
+  pub counts :
+      (lentTicks 0 12 (advances 9 ∷ finishes 0 ∷ arrives 0 ∷ advances 1 ∷ []) sample ∷ ownTicks 0 12 (advances 9 ∷ finishes 0 ∷ arrives 0 ∷ advances 1 ∷ []) sample ∷ ownTicks 0 10 (advances 10 ∷ []) sample ∷ ownTicks 1 10 (advances 10 ∷ []) sample ∷ [])
+      ≡ 8 ∷ 2 ∷ 2 ∷ 0 ∷ []
+
+-- the other words
+pub record WordsHeld : Type 0 where
+  -- active, with budget left
+  pub can-run : map canRun (of 0 0 9 ∷ of 1 0 9 ∷ of 1 1 9 ∷ of 2 2 9 ∷ []) ≡ false ∷ false ∷ true ∷ true ∷ []
+  -- no spare by 4: none at all, one at 5, and not one at 4
+  pub none-by : NoneBy 4 [] × NoneBy 4 (spare 5 0 1 ∷ []) × (NoneBy 4 (spare 4 0 1 ∷ []) → ⊥)
+  -- a budget of 1 and a spare of 1 with deadline 11 are not overdue at tick 10, and are at tick 11
+  pub ahead : NothingOverdue (at10 (of 1 1 11 ∷ []) (spare 11 0 1 ∷ []))
+  pub budget-overdue : NothingOverdue (then 11 (of 1 1 11 ∷ []) [] 4 6) → ⊥
+  pub spare-overdue : NothingOverdue (then 11 (of 0 0 11 ∷ []) (spare 11 0 1 ∷ []) 4 6) → ⊥
+  -- a walk of 7 ticks that left 2 is an advance by 5; a refused one is refused as it was asked for
+  pub walk-made : walkCall 7 (record { answer = Went; state = sample; left = 2; count = 0; portions = [] }) ≡ advances 5
+  pub walk-refused : walkCall 7 (record { answer = Refused EndOfTime; state = sample; left = 0; count = 0; portions = [] }) ≡ advances 7
+  pub bits : (bit 0 6 ∷ bit 1 6 ∷ bit 2 6 ∷ bit 3 6 ∷ []) ≡ 0 ∷ 1 ∷ 1 ∷ 0 ∷ []
+  pub active-ones : actives four ≡ guest 1 8 1 1 9 0 0 ∷ guest 1 8 3 1 9 0 0 ∷ []
