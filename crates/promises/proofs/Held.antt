@@ -26,6 +26,7 @@ joining-held =
       left = refl;
       reached = refl;
       portions = refl;
+      second-walk = refl;
       two-walks = refl;
       each-tick = refl;
       of-a-portion = refl;

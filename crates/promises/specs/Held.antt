@@ -3,7 +3,7 @@ use mathlib.Core.Path.{_≡_}
 use mathlib.Core.Bool.{true, false}
 use mathlib.Core.List.{List, [], _∷_, map}
 use Prim.Native.Nat.{ℕ}
-use lib.ListN.{length}
+use lib.ListN.{length, drop}
 use Rattle.rules.specs.declared.Refusal.the-variants.{EndOfTime}
 use Rattle.rules.specs.declared.Answer.the-variants.{Went, Refused}
 use Rattle.rules.specs.Model.{guest, spare, Model}
@@ -23,6 +23,7 @@ pub record JoiningHeld : Type 0 where
   pub left : (leftAfter 0 65 (lone 0 1 1 1) ∷ leftAfter 1 65 (lone 0 1 1 1) ∷ leftAfter 2 65 (lone 0 1 1 1) ∷ []) ≡ 65 ∷ 1 ∷ 0 ∷ []
   pub reached : (walkedTo 1 65 (lone 0 1 1 1) .now ∷ walkedTo 2 65 (lone 0 1 1 1) .now ∷ []) ≡ 64 ∷ 65 ∷ []
   pub portions : (length (joined 1 65 (lone 0 1 1 1)) ∷ length (joined 2 65 (lone 0 1 1 1)) ∷ []) ≡ 64 ∷ 65 ∷ []
+  pub second-walk : drop 64 (joined 2 65 (lone 0 1 1 1)) ≡ line 64 65 (own 0) ∷ []
   pub two-walks : joined 2 7 sample ≡ line 10 14 (spareOf 0 1) ∷ line 14 15 (spareOf 0 1) ∷ line 15 17 (spareOf 0 0) ∷ []
   -- what each tick uses, and a portion as its ticks
   pub each-tick : uses 6 sampleModel ≡ spareOf 0 1 ∷ spareOf 0 1 ∷ spareOf 0 1 ∷ spareOf 0 1 ∷ spareOf 0 1 ∷ spareOf 0 0 ∷ []
