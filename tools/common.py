@@ -1,0 +1,107 @@
+"""What several tools read of the tree: the crates, the edits beside them, and what their antt files declare.
+
+No crate is named here: whatever crates.txt lists is read.
+"""
+import glob
+import os
+import re
+from typing import NamedTuple
+
+SIGNATURE = re.compile(r"(?P<kind>abbrev |unfoldable )?(?P<public>pub )?(?P<name>[^\s(){}:]+) : (?P<type>.*)")
+NOMINAL = re.compile(r"(?P<public>pub )?(?P<kind>record|data) (?P<name>\S+)(?P<parameters>.*?) : (?P<type>Type \d+) where")
+IMPORT = re.compile(r"(?:ghost )?use Rattle·(?P<crate>[a-z0-9_]+)(?:·specs)?\.specs\.(?P<file>[A-Za-z0-9_]+)\.\{(?P<names>[^}]*)\}")
+
+
+class Edit(NamedTuple):
+    """One change of one file of a crate; its text says what it is about."""
+
+    crate: str
+    label: str
+    about: str
+    file: str
+    old: str
+    new: str
+
+    def of_definition(self):
+        """Whether a definition is changed, and not code."""
+        return self.file.startswith("specs/")
+
+
+class Declared(NamedTuple):
+    """What an antt file declares at its left edge, and on which line. `kind` is empty for a theorem."""
+
+    crate: str
+    folder: str
+    file: str
+    name: str
+    kind: str
+    public: bool
+    parameters: str
+    type: str
+    line: int
+
+    def is_statement(self):
+        """Whether this is a statement with a name, in the form that promises have."""
+        stands_open = self.kind == "abbrev" or (self.kind == "record" and not self.parameters)
+        return self.folder == "specs" and self.public and stands_open and self.type == "Type 0"
+
+
+def read(path):
+    """The text of a file."""
+    with open(path, encoding="utf-8") as file:
+        return file.read()
+
+
+def listed():
+    """The crates of crates.txt, in its order, each with those that it builds on."""
+    lines = [line.split("#")[0].strip() for line in read("crates.txt").splitlines()]
+    return {line.split(":")[0].strip(): line.split(":")[1].split() for line in lines if line}
+
+
+def edits(crate, folder="must-fail"):
+    """The edits in a folder of a crate, by label."""
+    found = []
+    for path in sorted(glob.glob(f"crates/{crate}/{folder}/*.edit")):
+        lines = read(path).splitlines()
+        parts = {word: line[len(word) + 2 :] for line in lines for word in ("file", "old", "new") if line.startswith(word + ": ")}
+        label = os.path.basename(path)[: -len(".edit")]
+        found.append(Edit(crate, label, lines[0].lstrip("# "), parts["file"], parts["old"], parts["new"]))
+    return found
+
+
+def whole_type(lines, at, first):
+    """A stated type with the indented lines that it goes on in."""
+    behind = at + 1
+    while behind < len(lines) and lines[behind].startswith(" "):
+        behind += 1
+    return " ".join([first.strip()] + [line.strip() for line in lines[at + 1 : behind]]).strip()
+
+
+def declared_in(crate, folder, path):
+    """What one file declares."""
+    file = os.path.relpath(path, f"crates/{crate}/{folder}")[: -len(".antt")]
+    lines = read(path).splitlines()
+    found = []
+    for at, line in enumerate(lines):
+        nominal, signature = NOMINAL.match(line), SIGNATURE.match(line)
+        if nominal:
+            found.append(Declared(crate, folder, file, nominal["name"], nominal["kind"], bool(nominal["public"]), nominal["parameters"].strip(), nominal["type"], at + 1))
+        elif signature:
+            kind = (signature["kind"] or "").strip()
+            found.append(Declared(crate, folder, file, signature["name"], kind, bool(signature["public"]), "", whole_type(lines, at, signature["type"]), at + 1))
+    return found
+
+
+def declared(crate, folder):
+    """What the files of crates/CRATE/specs or crates/CRATE/proofs declare."""
+    paths = sorted(glob.glob(f"crates/{crate}/{folder}/**/*.antt", recursive=True))
+    return [one for path in paths for one in declared_in(crate, folder, path)]
+
+
+def imported(path):
+    """For each name that a file has from some crate's specs/: the crate and the file that it comes from."""
+    found = {}
+    for use in IMPORT.finditer(read(path)):
+        for name in use["names"].split(","):
+            found[name.strip()] = (use["crate"], use["file"])
+    return found

@@ -1,0 +1,120 @@
+"""How strong a refusal is: what the checker's log says of a wrong definition or of wrong code.
+
+The classes, from the strongest:
+  row              an error stands in the theorem of a row or of a named promise: its stated type is a statement of some crate's specs/,
+                   or `Hold rows` of rows that stand there
+  counterexample   the checker names numbers at which the goal fails, or two numbers, truth values or cases of an enum that should be equal
+  goal or text     a `search` found no proof, or two terms differ as text
+  shape            only the text of a proof no longer fits
+The checker goes on after an error, so every error of a log is read and the strongest counts. That something "was not admitted" follows from
+another error, and never counts.
+"""
+import os
+import re
+from typing import NamedTuple
+
+import common
+
+ROW, COUNTEREXAMPLE, GOAL, SHAPE, NONE = "row", "counterexample", "goal or text", "shape", "none"
+CLASSES = [ROW, COUNTEREXAMPLE, GOAL, SHAPE, NONE]
+
+# What follows from another error.
+CONSEQUENCE = "was not admitted"
+# What the checker says where a statement does not hold.
+FACTS = re.compile(
+    r"does not follow from what it read"
+    r"|(types|indices|terms) (differ only|first differ) where"
+    r"|expected type .* but this has type"
+    r"|is checked against .* which is not a"
+    r"|`search`: no proof of"
+)
+# What it says where the proof's text, and no fact, is at odds with the edit.
+SHAPES = re.compile(
+    r"has no `Need-|has no field|not in scope|cannot be unfolded|explicit arguments"
+    r"|no occurrence|unsolved|was not determined|no proof: expected|step limit|Parse|parse|layout"
+)
+# What it says where it has numbers that decide: of a goal, of two types that differ in one place, of an equation without variables.
+VALUE = r"(?:\d[\d_]*|true|false)"
+WRITTEN_OUT = r"(?:[A-Z]\w*|\d[\d_]*|true|false|\([A-Z]\w*(?: [A-Z]\w*| \d[\d_]*)*\))"
+COMPUTED = "computed as far as they go, the two types "
+FAILS_AT = re.compile(r"fails, at `")
+DIFFER = re.compile(COMPUTED + rf"(?:differ only|first differ) where one has `{VALUE}` \(expected\)(?:, right after `[^`]*`)?,? and the other has `{VALUE}` \(found\)")
+UNEQUAL = re.compile(COMPUTED + rf"are `Path \S+ (?P<left>{WRITTEN_OUT}) (?P<right>{WRITTEN_OUT})` \(expected\)")
+# What it says of a function that it has to prove by itself; the next line has what it found.
+UNPROVED = "it is not proved that what the function ensures holds when it returns"
+
+
+class Refusal(NamedTuple):
+    """The class of an error and where it stands."""
+
+    strength: str
+    place: str
+    text: str
+
+
+def errors(log):
+    """Each error with the indented lines that belong to it, and where it stands."""
+    lines = log.splitlines()
+    for at, line in enumerate(lines):
+        if ": error:" in line:
+            behind = at + 1
+            while behind < len(lines) and lines[behind].startswith("  "):
+                behind += 1
+            place, text = line.split(": error:", 1)
+            yield place, " ".join([text.strip()] + [l.strip() for l in lines[at + 1 : behind]])
+        elif line.startswith("note: ") and UNPROVED in line:
+            place, text = line[len("note: ") :].split(": " + UNPROVED, 1)
+            found = lines[at + 1] if at + 1 < len(lines) else ""
+            yield place, " ".join([text.strip(), found.strip()])
+
+
+class Theorems:
+    """Which theorems of the tree prove a row or a named promise, and where they stand."""
+
+    def __init__(self):
+        specs = [one for crate in common.listed() for one in common.declared(crate, "specs")]
+        self.statements = {one.name for one in specs if one.is_statement()}
+        self.rows = {one.name for one in specs if one.type.startswith("List ")}
+        self.proofs = {}
+
+    def opened(self, crate, file):
+        """What stands at the left edge of crates/CRATE/proofs/FILE.antt, by line: a theorem, or None for a `module` with others in it."""
+        path = f"crates/{crate}/proofs/{file}.antt"
+        if path not in self.proofs and os.path.exists(path):
+            modules = {at + 1: None for at, line in enumerate(common.read(path).splitlines()) if line.startswith("module ")}
+            self.proofs[path] = modules | {one.line: one for one in common.declared_in(crate, "proofs", path)}
+        return self.proofs.get(path, {})
+
+    def of_a_row(self, crate, file, line):
+        """Whether the theorem around a line proves a row or a named promise."""
+        above = [at for at in self.opened(crate, file) if at <= line]
+        theorem = self.opened(crate, file)[max(above)] if above else None
+        if theorem is None or theorem.kind:
+            return False
+        words = theorem.type.split()
+        return theorem.type in self.statements or (words[0] == "Hold" and len(words) == 2 and words[1] in self.rows)
+
+
+def strength_of(text, in_row):
+    """The class of one error."""
+    if SHAPES.search(text.split(" computed as far")[0][:400]) or not FACTS.search(text):
+        return SHAPE
+    if in_row:
+        return ROW
+    unequal = UNEQUAL.search(text)
+    decided = FAILS_AT.search(text) or DIFFER.search(text) or (unequal and unequal["left"] != unequal["right"])
+    return COUNTEREXAMPLE if decided else GOAL
+
+
+def refusal_of(log, crate, theorems):
+    """The strongest refusal of a crate's log; the first one among equals."""
+    found = []
+    for place, text in errors(log):
+        if CONSEQUENCE in text.split(" expected type")[0][:400]:
+            continue
+        inside = re.search(r"(?:^|/)proofs/(.*)\.antt:(\d+)", place)
+        in_row = bool(inside) and theorems.of_a_row(crate, inside[1], int(inside[2]))
+        short = re.sub(r"^.*/(?=(specs|proofs|src)/)", "", place)
+        name = re.match(r"`[^`]*`", text)
+        found.append(Refusal(strength_of(text, in_row), short + (f" {name[0]}" if name else ""), text))
+    return min(found, key=lambda one: CLASSES.index(one.strength), default=Refusal(NONE, "", "no error in the log"))
