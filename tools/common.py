@@ -13,18 +13,16 @@ IMPORT = re.compile(r"(?:ghost )?use Rattle·(?P<crate>[a-z0-9_]+)(?:·specs)?\.
 
 
 class Edit(NamedTuple):
-    """One change of one file of a crate; its text says what it is about."""
+    """A change of a crate, in one file or several."""
 
     crate: str
     label: str
     about: str
-    file: str
-    old: str
-    new: str
+    files: list
 
     def of_definition(self):
-        """Whether a definition is changed, and not code."""
-        return self.file.startswith("specs/")
+        """Whether a definition is changed, and not code alone."""
+        return any(file.startswith("specs/") for file in self.files)
 
 
 class Declared(NamedTuple):
@@ -63,9 +61,8 @@ def edits(crate, folder="must-fail"):
     found = []
     for path in sorted(glob.glob(f"crates/{crate}/{folder}/*.edit")):
         lines = read(path).splitlines()
-        parts = {word: line[len(word) + 2 :] for line in lines for word in ("file", "old", "new") if line.startswith(word + ": ")}
-        label = os.path.basename(path)[: -len(".edit")]
-        found.append(Edit(crate, label, lines[0].lstrip("# "), parts["file"], parts["old"], parts["new"]))
+        files = [line[len("file: ") :] for line in lines if line.startswith("file: ")]
+        found.append(Edit(crate, os.path.basename(path)[: -len(".edit")], lines[0].lstrip("# "), files))
     return found
 
 
