@@ -89,10 +89,14 @@ def declared_in(crate, folder, path):
     return found
 
 
+def paths(crate, folder):
+    """The antt files of crates/CRATE/specs or crates/CRATE/proofs."""
+    return sorted(glob.glob(f"crates/{crate}/{folder}/**/*.antt", recursive=True))
+
+
 def declared(crate, folder):
-    """What the files of crates/CRATE/specs or crates/CRATE/proofs declare."""
-    paths = sorted(glob.glob(f"crates/{crate}/{folder}/**/*.antt", recursive=True))
-    return [one for path in paths for one in declared_in(crate, folder, path)]
+    """What these files declare."""
+    return [one for path in paths(crate, folder) for one in declared_in(crate, folder, path)]
 
 
 def imported(path):
