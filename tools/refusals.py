@@ -3,8 +3,9 @@
 The classes, from the strongest:
   row              an error stands in the theorem of a row or of a named promise: its stated type is a statement of some crate's specs/,
                    or `Hold rows` of rows that stand there
-  counterexample   the checker names numbers at which the goal fails, or two numbers, truth values or cases of an enum that should be equal
-  goal or text     a `search` found no proof, or two terms differ as text
+  counterexample   the checker names numbers at which the goal fails: omega's own, for variables alone, with nothing in reach that it does not read;
+                   or two values that should be equal, in a statement without variables
+  goal or text     a goal was not proved, or two terms differ as text
   shape            only the text of a proof no longer fits
 The checker goes on after an error, so every error of a log is read and the strongest counts. That something "was not admitted" follows from
 another error, and never counts.
@@ -33,13 +34,16 @@ SHAPES = re.compile(
     r"has no `Need-|has no field|not in scope|cannot be unfolded|explicit arguments"
     r"|no occurrence|unsolved|was not determined|no proof: expected|step limit|Parse|parse|layout"
 )
-# What it says where it has numbers that decide: of a goal, of two types that differ in one place, of an equation without variables.
+# What it says where it has numbers that decide: of a goal over variables, of two types that differ in one place, of an equation of values.
+VARIABLE = r"`[\w′'-]+(?: \.[\w-]+)*`"
+FAILS_AT = re.compile(rf"(?:goal|part) fails, at {VARIABLE}\s*= \d+(?:, {VARIABLE}\s*= \d+)*(?:\.|, and 0 for every other atom\.) ")
 VALUE = r"(?:\d[\d_]*|true|false)"
 WRITTEN_OUT = r"(?:[A-Z]\w*|\d[\d_]*|true|false|\([A-Z]\w*(?: [A-Z]\w*| \d[\d_]*)*\))"
 COMPUTED = "computed as far as they go, the two types "
-FAILS_AT = re.compile(r"fails, at `")
 DIFFER = re.compile(COMPUTED + rf"(?:differ only|first differ) where one has `{VALUE}` \(expected\)(?:, right after `[^`]*`)?,? and the other has `{VALUE}` \(found\)")
 UNEQUAL = re.compile(COMPUTED + rf"are `Path \S+ (?P<left>{WRITTEN_OUT}) (?P<right>{WRITTEN_OUT})` \(expected\)")
+# A search reports what omega said last, over what the search had; and omega may not read all that is known.
+INCOMPLETE = re.compile(r"`search`: no proof of|It passed over \d+ in reach")
 # What it says of a function that it has to prove by itself; the next line has what it found.
 UNPROVED = "it is not proved that what the function ensures holds when it returns"
 
@@ -85,25 +89,35 @@ class Theorems:
             self.proofs[path] = modules | {one.line: one for one in common.declared_in(crate, "proofs", path)}
         return self.proofs.get(path, {})
 
-    def of_a_row(self, crate, file, line):
-        """Whether the theorem around a line proves a row or a named promise."""
-        above = [at for at in self.opened(crate, file) if at <= line]
-        theorem = self.opened(crate, file)[max(above)] if above else None
-        if theorem is None or theorem.kind:
-            return False
+    def around(self, place, crate):
+        """The theorem that a place of a crate's log stands in, if any."""
+        inside = re.search(r"(?:^|/)proofs/(.*)\.antt:(\d+)", place)
+        opened = self.opened(crate, inside[1]) if inside else {}
+        above = [at for at in opened if at <= int(inside[2])]
+        theorem = opened[max(above)] if above else None
+        return theorem if theorem and not theorem.kind else None
+
+    def is_row(self, theorem):
+        """Whether a theorem proves a row or a named promise."""
         words = theorem.type.split()
         return theorem.type in self.statements or (words[0] == "Hold" and len(words) == 2 and words[1] in self.rows)
 
+    def strength_of(self, text, theorem):
+        """The class of an error in a theorem."""
+        if SHAPES.search(text.split(" computed as far")[0][:400]) or not FACTS.search(text):
+            return SHAPE
+        if theorem and self.is_row(theorem):
+            return ROW
+        return COUNTEREXAMPLE if decided(text, theorem) else GOAL
 
-def strength_of(text, in_row):
-    """The class of one error."""
-    if SHAPES.search(text.split(" computed as far")[0][:400]) or not FACTS.search(text):
-        return SHAPE
-    if in_row:
-        return ROW
+
+def decided(text, theorem):
+    """Whether an error has numbers, or other values, that show that the goal does not hold."""
     unequal = UNEQUAL.search(text)
-    decided = FAILS_AT.search(text) or DIFFER.search(text) or (unequal and unequal["left"] != unequal["right"])
-    return COUNTEREXAMPLE if decided else GOAL
+    if unequal:
+        return unequal["left"] != unequal["right"]
+    closed = theorem is not None and "→" not in theorem.type
+    return bool(closed and DIFFER.search(text)) or bool(FAILS_AT.search(text) and not INCOMPLETE.search(text))
 
 
 def refusal_of(log, crate, theorems):
@@ -112,9 +126,7 @@ def refusal_of(log, crate, theorems):
     for place, text in errors(log):
         if CONSEQUENCE in text.split(" expected type")[0][:400]:
             continue
-        inside = re.search(r"(?:^|/)proofs/(.*)\.antt:(\d+)", place)
-        in_row = bool(inside) and theorems.of_a_row(crate, inside[1], int(inside[2]))
         short = re.sub(r"^.*/(?=(specs|proofs|src)/)", "", place)
         name = re.match(r"`[^`]*`", text)
-        found.append(Refusal(strength_of(text, in_row), short + (f" {name[0]}" if name else ""), text))
+        found.append(Refusal(theorems.strength_of(text, theorems.around(place, crate)), short + (f" {name[0]}" if name else ""), text))
     return min(found, key=lambda one: CLASSES.index(one.strength), default=Refusal(NONE, "", "no error in the log"))
