@@ -1,6 +1,6 @@
 # The README's commands: `make demo` shows the worked listing and its picture, `make test` is the whole gate. `make valgrind` and `make bench`
-# want valgrind, and `make fuzz` installs a fuzzer.
-.PHONY: demo test valgrind bench fuzz
+# want valgrind, and `make fuzz` installs a fuzzer. `make mutants` and `make rewritings` try changes of the definitions and of the code.
+.PHONY: demo test valgrind bench fuzz mutants rewritings
 
 demo:
 	@tools/demo
@@ -24,3 +24,9 @@ fuzz:
 	@rt check schedule
 	@rt staticlib boot
 	@tools/fuzz
+
+mutants:
+	@tools/mutants
+
+rewritings:
+	@tools/rewritings

@@ -9,6 +9,8 @@ from typing import NamedTuple
 import common
 
 WORDS = {"leb": ["ltb"], "ltb": ["leb"], "eqb": ["leb"], "<": ["≤"], "≤": ["<"], "&&": ["||"], "||": ["&&"], "max": ["min"], "min": ["max"], "+": ["-"], "-": ["+"], "true": ["false"], "false": ["true"]}
+# Where a word comes from that a change brings in.
+HOMES = {"lib.Dec": ["leb", "ltb"], "Prim.Native.Nat": ["_<_", "_≤_", "_+_", "_-_", "max", "min", "suc"], "mathlib.Core.Bool": ["_&&_", "_||_", "true", "false"]}
 TOKEN = re.compile(r"[(){}]|[;,]|[^\s(){};,]+")
 # What ends an operand, from the loosest on.
 BREAKS = {"→", "↔", ",", ";", "=", "let", "in", "λ", ".", ":"}
@@ -86,11 +88,20 @@ def split(items, words):
 
 def kind_of(line):
     """What a line at the left edge of a definition is."""
-    if re.match(r"(--|(pub )?(mod|use|module|infixl?|infixr?|unfolding)\b)", line):
+    if re.match(r"(--|(pub )?(mod|use|infixl?|infixr?|unfolding)\b)", line):
         return "other"
-    if common.NOMINAL.match(line):
-        return "record" if " record " in f" {line}" else "data"
+    nominal = common.NOMINAL.match(line)
+    if nominal or line.startswith("module "):
+        return nominal["kind"] if nominal else "module"
     return "signature" if common.SIGNATURE.match(line) else "clause"
+
+
+def blocks(text, start, end, edge):
+    """Each line with just so much indentation, and where it begins and ends with the deeper lines under it."""
+    lines = [(found.start(), found.end()) for found in re.compile(r"^.*\S", re.MULTILINE).finditer(text, start, end)]
+    begins = [at for at, (first, last) in enumerate(lines) if len(text[first:last]) - len(text[first:last].lstrip()) == edge]
+    for at, behind in zip(begins, begins[1:] + [len(lines)]):
+        yield text[slice(*lines[at])].strip(), lines[at][0], lines[behind - 1][1]
 
 
 def numbers_bound(left, type):
@@ -105,35 +116,22 @@ def numbers_bound(left, type):
     return [name for name in names if re.fullmatch(r"[a-zA-Z]+", name) and name not in ("zero", "suc", "true", "false")]
 
 
-def pieces(text):
-    """The parts of a file that may be changed."""
-    found, function, type, edge, nominal = [], "", "", 0, ""
-    starts = [m.start() for m in re.finditer(r"^", text, re.MULTILINE)] + [len(text)]
-    at = 0
-    while at < len(starts) - 1:
-        line = text[starts[at] : starts[at + 1]].rstrip("\n")
-        indent = len(line) - len(line.lstrip())
-        if line.strip() and indent == 0:
-            edge = 2 if line.startswith("module ") else 0
-            nominal = ""
-        field = nominal == "record" and indent == edge + 2
-        behind = at + 1
-        while behind < len(starts) - 1 and re.match(rf" {{{indent + 1},}}[^\s-]", text[starts[behind] : starts[behind + 1]]):
-            behind += 1
-        kind = kind_of(line.strip()) if line.strip() and indent == edge else ""
-        if field and re.match(r"(pub )?\S+ :", line.strip()):
-            begin = starts[at] + line.index(" :") + 2
-            found.append(Piece(begin, starts[behind], starts[at], nominal, []))
-        elif kind in ("record", "data"):
-            nominal, behind = kind, at + 1
+def pieces(text, start, end, edge):
+    """The parts of a file that may be changed, of those definitions whose left edge is here."""
+    found, function, type = [], "", ""
+    for line, begin, behind in blocks(text, start, end, edge):
+        kind, under = kind_of(line), text.find("\n", begin) + 1
+        sign = re.search(r" =( |$)", line)
+        if kind == "module":
+            found += pieces(text, under, behind, edge + 2)
+        elif kind == "record":
+            fields = blocks(text, under, behind, edge + 2)
+            found += [Piece(first + edge + 2 + field.index(" :") + 2, last, first, "record", []) for field, first, last in fields if " :" in field]
         elif kind == "signature":
-            match = common.SIGNATURE.match(line.strip())
-            function, type, nominal = match["name"], match["type"], ""
-        elif kind == "clause" and re.search(r" =( |$)", line):
-            begin = starts[at] + re.search(r" =( |$)", line).start() + 2
-            found.append(Piece(begin, starts[behind], starts[at], function, numbers_bound(line[: line.index(" =")], type)))
-        at = behind if kind or field else at + 1
-    return [piece._replace(end=piece.start + len(text[piece.start : piece.end].rstrip())) for piece in found]
+            function, type = common.SIGNATURE.match(line)["name"], common.SIGNATURE.match(line)["type"]
+        elif kind == "clause" and sign:
+            found.append(Piece(begin + edge + sign.start() + 2, behind, begin, function, numbers_bound(line[: sign.start()], type)))
+    return found
 
 
 def argument_types(type):
@@ -243,7 +241,7 @@ def arguments(text, group, known):
 def cases(text, found):
     """The right-hand sides of two neighbouring clauses exchanged, or one in the place of both."""
     for one, other in zip(found, found[1:]):
-        if one.function == other.function and one.bound is not None and one.function not in ("record", "data"):
+        if one.function == other.function != "record":
             a, b, c, d = one.start, one.end, other.start, other.end
             if text[a:b].split() != text[c:d].split():
                 yield a, d, text[c:d] + text[b:c] + text[a:b], "this clause, the next -> exchanged"
@@ -253,7 +251,7 @@ def cases(text, found):
 
 def without_fields(text, found):
     """A field of a record left out, where the record is a predicate: some field of it states something."""
-    for at, piece in enumerate(found):
+    for piece in found:
         around = [one for one in found if one.function == "record" and record_of(text, one) == record_of(text, piece)]
         if piece.function == "record" and len(around) > 1 and any(re.search(r"[≡<≤→]", text[one.start : one.end]) for one in around):
             yield piece.head, piece.end + 1, "", "this field -> nothing"
@@ -278,6 +276,15 @@ def line_at(text, place):
     return text[text.rfind("\n", 0, place) + 1 :].split("\n")[0].strip()
 
 
+def with_imports(text, new):
+    """A file's text with what the words of a change need besides."""
+    here = {name.strip() for names in re.findall(r"^use .*\{(.*)\}$", text, re.MULTILINE) for name in names.split(",")}
+    words = set(TOKEN.findall(new))
+    missing = [(home, name) for home, names in HOMES.items() for name in names if name.strip("_") in words and name not in here]
+    first = text.index("\nuse ") + 1 if "\nuse " in text else text.index("\n") + 1
+    return text[:first] + "".join(f"use {home}.{{{name}}}\n" for home, name in missing) + text[first:]
+
+
 def in_group(text, piece, group, known):
     """The changes of the items of one bracket, or of a whole piece."""
     yield from other_words(text, group)
@@ -290,7 +297,7 @@ def in_group(text, piece, group, known):
 
 def changes(where, text, known):
     """Every change of a file. Where two of one line would be called the same, the later ones are numbered."""
-    found, all_pieces, called, seen = [], pieces(text), {}, {text}
+    found, all_pieces, called, seen = [], pieces(text, 0, len(text), 0), {}, {text}
     for piece in all_pieces:
         for group in groups(items_of(text, piece.start, piece.end)):
             found += in_group(text, piece, group, known)
@@ -302,4 +309,4 @@ def changes(where, text, known):
         number = called[line, what]
         if after not in seen:
             seen.add(after)
-            yield Change(where, line, what + (f" ({number})" if number > 1 else ""), after)
+            yield Change(where, line, what + (f" ({number})" if number > 1 else ""), with_imports(after, new))

@@ -1,8 +1,8 @@
 """How strong a refusal is: what the checker's log says of a wrong definition or of wrong code.
 
 The classes, from the strongest:
-  row              an error stands in the theorem of a row or of a named promise: its stated type is a statement of some crate's specs/,
-                   or `Hold rows` of rows that stand there
+  row              an error stands in the theorem of rows, `Hold rows`: what the rules compute is not what the document says
+  promise          an error stands in the theorem of a named promise: its stated type is a statement of some crate's specs/
   counterexample   the checker names numbers at which the goal fails: omega's own, for variables alone, with nothing in reach that it does not read;
                    or two values that should be equal, in a statement without variables
   goal or text     a goal was not proved, or two terms differ as text
@@ -16,8 +16,8 @@ from typing import NamedTuple
 
 import common
 
-ROW, COUNTEREXAMPLE, GOAL, SHAPE, NONE = "row", "counterexample", "goal or text", "shape", "none"
-CLASSES = [ROW, COUNTEREXAMPLE, GOAL, SHAPE, NONE]
+ROW, PROMISE, COUNTEREXAMPLE, GOAL, SHAPE, NONE = "row", "promise", "counterexample", "goal or text", "shape", "none"
+CLASSES = [ROW, PROMISE, COUNTEREXAMPLE, GOAL, SHAPE, NONE]
 
 # What follows from another error.
 CONSEQUENCE = "was not admitted"
@@ -73,7 +73,7 @@ def errors(log):
 
 
 class Theorems:
-    """Which theorems of the tree prove a row or a named promise, and where they stand."""
+    """Which theorems of the tree prove rows or a named promise, and where they stand."""
 
     def __init__(self):
         specs = [one for crate in common.listed() for one in common.declared(crate, "specs")]
@@ -97,17 +97,15 @@ class Theorems:
         theorem = opened[max(above)] if above else None
         return theorem if theorem and not theorem.kind else None
 
-    def is_row(self, theorem):
-        """Whether a theorem proves a row or a named promise."""
-        words = theorem.type.split()
-        return theorem.type in self.statements or (words[0] == "Hold" and len(words) == 2 and words[1] in self.rows)
-
     def strength_of(self, text, theorem):
         """The class of an error in a theorem."""
         if SHAPES.search(text.split(" computed as far")[0][:400]) or not FACTS.search(text):
             return SHAPE
-        if theorem and self.is_row(theorem):
+        words = theorem.type.split() if theorem else []
+        if len(words) == 2 and words[0] == "Hold" and words[1] in self.rows:
             return ROW
+        if len(words) == 1 and words[0] in self.statements:
+            return PROMISE
         return COUNTEREXAMPLE if decided(text, theorem) else GOAL
 
 
@@ -116,7 +114,7 @@ def decided(text, theorem):
     unequal = UNEQUAL.search(text)
     if unequal:
         return unequal["left"] != unequal["right"]
-    closed = theorem is not None and "→" not in theorem.type
+    closed = theorem is not None and "≡" in theorem.type and "→" not in theorem.type
     return bool(closed and DIFFER.search(text)) or bool(FAILS_AT.search(text) and not INCOMPLETE.search(text))
 
 
