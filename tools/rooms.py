@@ -3,22 +3,22 @@ import os
 import shutil
 import signal
 import subprocess
+import tempfile
 
 PROVED = ("rlib", "obj", "stamp", "log", "bin")
 
 
 class Room:
-    """A copy of the crates in a folder under target/."""
+    """A copy of the crates in a folder of its own under target/."""
 
-    def __init__(self, folder):
-        self.root = folder
-        shutil.rmtree(folder, ignore_errors=True)
-        os.makedirs(folder)
-        shutil.copytree("crates", f"{folder}/crates")
-        shutil.copy("crates.txt", folder)
+    def __init__(self, name):
+        os.makedirs("target", exist_ok=True)
+        self.root = tempfile.mkdtemp(prefix=f"{name}-", dir="target")
+        shutil.copytree("crates", f"{self.root}/crates")
+        shutil.copy("crates.txt", self.root)
         for part in PROVED:
             if os.path.isdir(f"target/{part}"):
-                shutil.copytree(f"target/{part}", f"{folder}/target/{part}")
+                shutil.copytree(f"target/{part}", f"{self.root}/target/{part}")
 
     def ran(self, seconds, *words):
         """The exit status of a command, and what it said; no status where it took too long."""
