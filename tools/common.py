@@ -5,6 +5,7 @@ No crate is named here: whatever crates.txt lists is read.
 import glob
 import os
 import re
+import sys
 from typing import NamedTuple
 
 SIGNATURE = re.compile(r"(?P<kind>abbrev |unfoldable )?(?P<public>pub )?(?P<name>[^\s(){}:]+) : (?P<type>.*)")
@@ -54,6 +55,14 @@ def listed():
     """The crates of crates.txt, in its order, each with those that it builds on."""
     lines = [line.split("#")[0].strip() for line in read("crates.txt").splitlines()]
     return {line.split(":")[0].strip(): line.split(":")[1].split() for line in lines if line}
+
+
+def chosen(names):
+    """The crates that a command line names, or all."""
+    unknown = [name for name in names if name not in listed()]
+    if unknown:
+        sys.exit(f"crates.txt has no crate {', '.join(unknown)}")
+    return names or list(listed())
 
 
 def edits(crate, folder="must-fail"):
