@@ -22,7 +22,8 @@ class Room:
 
     def ran(self, seconds, *words):
         """The exit status of a command, and what it said; no status where it took too long."""
-        child = subprocess.Popen(words, cwd=self.root, stdout=subprocess.PIPE, stderr=subprocess.STDOUT, text=True, start_new_session=True)
+        whole = dict(os.environ, RT_CUT="0")
+        child = subprocess.Popen(words, cwd=self.root, env=whole, stdout=subprocess.PIPE, stderr=subprocess.STDOUT, text=True, start_new_session=True)
         try:
             said, _ = child.communicate(timeout=seconds)
             return child.returncode, said
