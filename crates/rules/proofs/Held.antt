@@ -259,6 +259,7 @@ outcomes-held =
       done-second = record { answer = refl; state = refl };
       done-refused = record { answer = refl; state = refl };
       advance = record { answer = refl; state = refl };
+      advance-to-the-end = record { answer = refl; state = refl };
       advance-refused = record { answer = refl; state = refl };
       ask = record { answer = refl; next = refl };
       ask-own = record { answer = refl; next = refl };

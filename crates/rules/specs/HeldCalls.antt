@@ -72,6 +72,8 @@ pub record OutcomesHeld : Type 0 where
   pub done-refused : Finished sample 1 (record { answer = Refused GuestIdle; state = sample })
   -- 4 ticks on the first spare and 1 on the second
   pub advance : Advanced sample 5 (record { answer = Went; state = packed (then 15 (guest 3 12 2 2 30 3 6 ∷ resting ∷ []) (spare 24 0 3 ∷ []) 1 2) })
+  -- up to the end of time, and not past it
+  pub advance-to-the-end : Advanced (lone 1099511627771 0 0 0) 5 (record { answer = Went; state = lone 1099511627776 0 0 0 })
   pub advance-refused : Advanced (lone 1099511627776 0 0 0) 1 (record { answer = Refused EndOfTime; state = lone 1099511627776 0 0 0 })
   pub ask : AskedFor sample (record { answer = Went; next = Run 0 (SpareOf 1) 16 4 })
   pub ask-own : AskedFor (lone 0 1 1 5) (record { answer = Went; next = Run 0 Own 5 1 })
