@@ -292,6 +292,7 @@ answers-held =
       rests = refl;
       who = refl;
       unchanged = refl;
+      to-the-end = refl;
       one-by-one = refl;
     }
 
@@ -335,6 +336,7 @@ image-held =
       at-a-place = refl;
       numbers = refl;
       every-byte = refl;
+      whole-entry = refl;
       entries = refl;
       part = refl;
       table = refl;

@@ -104,6 +104,7 @@ pub record AnswersHeld : Type 0 where
   pub who : named sample 1 ≡ resting
   -- "Ask changes nothing", and so the other questions
   pub unchanged : map (λ (c : Call). stateAfter c sample) (asks ∷ asksActive ∷ asksMargin 1 ∷ []) ≡ sample ∷ sample ∷ sample ∷ []
+  pub to-the-end : stateAfter (advances 5) (lone 1099511627771 0 0 0) ≡ lone 1099511627776 0 0 0
   -- calls one after the other, refused ones among them
   pub one-by-one :
       run (arrives 1 ∷ arrives 2 ∷ asks ∷ finishes 1 ∷ advances 2 ∷ finishes 1 ∷ []) sample

@@ -52,6 +52,7 @@ pub record ImageHeld : Type 0 where
       (let image = replicate 8 0 ++ (8 ∷ 9 ∷ 10 ∷ 11 ∷ 0 ∷ 1 ∷ 2 ∷ 3 ∷ 4 ∷ 5 ∷ 6 ∷ 7 ∷ []) in frameIn image ∷ offsetIn image ∷ countIn image ∷ editionIn image ∷ [])
       ≡ 185207048 ∷ 50462976 ∷ 1284 ∷ 1798 ∷ []
   -- "n entries of 8 bytes: Q in 4 bytes, T in 4"
+  pub whole-entry : entriesIn 1 (1 ∷ 2 ∷ 3 ∷ 4 ∷ 5 ∷ 6 ∷ 7 ∷ 8 ∷ []) ≡ 67305985 by 134678021 ∷ []
   pub entries : entriesIn 2 (entry ++ short 3 4 ++ short 2 8) ≡ 66051 by 1000000 ∷ 3 by 4 ∷ []
   -- "the entries as a part of the caller's own image", at an offset above 0
   pub part : entriesPart behindThree ≡ 3 ∷ 2 ∷ 1 ∷ 0 ∷ 64 ∷ 66 ∷ 15 ∷ 0 ∷ []
@@ -94,7 +95,7 @@ pub record LengthHeld : Type 0 where
 
 -- "Writing takes a table and puts 8n + 12 bytes at the front of a lent buffer with offset 0; bytes behind them stay."
 pub record WritingHeld : Type 0 where
-  pub bytes : (bytesOf 4 66051 ∷ bytesOf 2 513 ∷ []) ≡ (3 ∷ 2 ∷ 1 ∷ 0 ∷ []) ∷ (1 ∷ 2 ∷ []) ∷ []
+  pub bytes : (bytesOf 4 66051 ∷ bytesOf 2 513 ∷ bytesOf 2 255 ∷ []) ≡ (3 ∷ 2 ∷ 1 ∷ 0 ∷ []) ∷ (1 ∷ 2 ∷ []) ∷ (255 ∷ 0 ∷ []) ∷ []
   pub written :
       imageOf two
       ≡ 3 ∷ 0 ∷ 0 ∷ 0 ∷ 4 ∷ 0 ∷ 0 ∷ 0 ∷ 2 ∷ 0 ∷ 0 ∷ 0 ∷ 8 ∷ 0 ∷ 0 ∷ 0 ∷ 8 ∷ 0 ∷ 0 ∷ 0 ∷ 0 ∷ 0 ∷ 0 ∷ 0 ∷ 2 ∷ 0 ∷ 1 ∷ 0 ∷ []
