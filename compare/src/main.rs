@@ -1,6 +1,7 @@
 //! Compares libboot.a with the second implementation on images made from a seed. No argument: all images;
 //! `few`: some two thousand, for valgrind; `write DIR`: no comparison, the sample images are written to DIR;
-//! `scripts WORD...`: no images, the listings of scripts by the program that the words start are compared instead. For inputs that a fuzzer has found:
+//! `scripts WORD...`: no images, the listings of scripts by the program that the words start are compared instead;
+//! `states WORD...`: every call of the library on any state, as the program `answers` that the words start tells it. For inputs that a fuzzer has found:
 //! `replay PROGRAM PLAIN FOLDER...` holds two programs to the second implementation on the folders' scripts, and
 //! `images PLAIN FOLDER...` the archive and a program on their images; `seeds DIR` writes images for it to start with.
 
@@ -14,6 +15,7 @@ mod purpose;
 mod random;
 mod samples;
 mod scripts;
+mod states;
 mod tables;
 mod tally;
 
@@ -25,7 +27,7 @@ use faults::{Faults, SET_COUNT};
 use random::Random;
 use tally::Tally;
 
-const USAGE: &str = "usage: compare [few | write DIR | scripts WORD... \
+const USAGE: &str = "usage: compare [few | write DIR | scripts WORD... | states WORD... \
                      | replay PROGRAM PLAIN FOLDER... | images PLAIN FOLDER... | seeds DIR]";
 const DEFAULT_SEED: u64 = 212;
 /// The header promises that calls from several threads don't disturb one another, so two call at once.
@@ -41,6 +43,7 @@ fn main() -> ExitCode {
         ["few"] => seed().and_then(|seed| run(seed, FEW_ROUNDS)),
         ["write", folder] => samples::write(Path::new(folder)).map_err(|error| error.to_string()),
         ["scripts", _, ..] => seed().and_then(|seed| scripts::run(&words[1..], seed)),
+        ["states", _, ..] => seed().and_then(|seed| states::run(&words[1..], seed)),
         ["replay", program, plain, ref folders @ ..] => {
             scripts::replay::run(&[program], &[plain], folders)
         }
