@@ -77,7 +77,7 @@ fn hold_batch(program: Words, seed: u64, number: usize) -> Result<Counts, String
     for (request, answers) in requests.iter().zip(&given) {
         counts
             .take(request, answers)
-            .map_err(|reason| format!("{reason}\n{request:?}"))?;
+            .map_err(|reason| format!("{reason}\n{request}"))?;
     }
     Ok(counts)
 }
@@ -94,22 +94,37 @@ fn hold(program: Words, requests: &[Request], given: &[Answers]) -> Result<(), S
         ends.push(expected.len());
     }
     let ending = child::run(program, &input, expected.len() + 1)?;
+    if ending.output != expected {
+        return Err(first_difference(
+            &ending.output,
+            &expected,
+            &ends,
+            requests,
+            given,
+        ));
+    }
     if !ending.status.success() {
         return Err(format!("the program ends with {}", ending.status));
     }
-    if ending.output == expected {
-        return Ok(());
-    }
-    let pairs = ending.output.iter().zip(&expected);
-    let differs = pairs.take_while(|(one, other)| one == other).count();
-    let place = ends.iter().position(|&end| differs < end);
-    let Some(place) = place else {
-        return Err("the program writes more than the answers".to_string());
+    Ok(())
+}
+
+fn first_difference(
+    output: &[u8],
+    expected: &[u8],
+    ends: &[usize],
+    requests: &[Request],
+    given: &[Answers],
+) -> String {
+    let pairs = output.iter().zip(expected);
+    let agreed = pairs.take_while(|(one, other)| one == other).count();
+    let Some(place) = ends.iter().position(|&end| agreed < end) else {
+        return "the program writes more than the answers".to_string();
     };
     let start = if place == 0 { 0 } else { ends[place - 1] };
-    let output = ending.output.get(start..).unwrap_or_default();
-    let shown = differences(output, &given[place]).join("\n");
-    Err(format!("request {place}: {:?}\n{shown}", requests[place]))
+    let rest = output.get(start..).unwrap_or_default();
+    let shown = differences(rest, &given[place]).join("\n");
+    format!("request {place}: {}\n{shown}", requests[place])
 }
 
 /// The numbers that differ, by name.

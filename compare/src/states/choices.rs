@@ -58,7 +58,7 @@ pub fn ticks(random: &mut Random, state: &State) -> u64 {
         few,
         few,
         span,
-        span - 1,
+        span.saturating_sub(1),
         span + 1,
         left,
         left.saturating_sub(few),

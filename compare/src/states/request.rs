@@ -1,16 +1,17 @@
 //! What is asked of both programs, and the second implementation's answer.
 
+use std::fmt;
+
 use second::image::{self, Reading};
 use second::refusal::Answer;
 use second::state::{self, State};
 use second::steps::{self, Active, Ask, Portion};
 use second::table::{self, Table};
 
-use super::wire::{state_numbers, table_numbers, Sink, Teller};
+use super::wire::{state_numbers, table_numbers, Name, Sink, Teller};
 
 const PORTION_PLACES: usize = 64;
 
-#[derive(Clone, Debug)]
 pub enum Request {
     State {
         state: Box<State>,
@@ -83,6 +84,38 @@ impl Request {
                 input.extend(image);
             }
         }
+    }
+}
+
+/// For a reader: every number that is not 0.
+impl fmt::Display for Request {
+    fn fmt(&self, out: &mut fmt::Formatter) -> fmt::Result {
+        let mut told: Vec<(Name, u64)> = Vec::new();
+        let (call, sink) = ("", &mut told);
+        let mut teller = Teller { call, sink };
+        match self {
+            Request::State {
+                state,
+                guest,
+                ticks,
+            } => {
+                write!(out, "guest {guest}, {ticks} ticks")?;
+                teller.state(state);
+            }
+            Request::Table {
+                table,
+                length,
+                fill,
+            } => {
+                write!(out, "{length} bytes of {fill}")?;
+                teller.table(table);
+            }
+            Request::Image(image) => {
+                write!(out, "an image of {} bytes: {image:02x?}", image.len())?
+            }
+        }
+        let mut numbers = told.iter().filter(|(_, value)| *value != 0);
+        numbers.try_for_each(|(name, value)| write!(out, ", {name} = {value}"))
     }
 }
 
