@@ -11,8 +11,9 @@ use borrow.Author.Tests.{leb-true, le-leb, lt-leb, not-true, not-false}
 use Rattle.laws.proofs.Cases.{by-test, by-leb}
 use Rattle.laws.proofs.Parts.{stored-on}
 use Rattle.rules.specs.declared.Portion.{Portion}
-use Rattle.lines.specs.Decimal.{decimal}
-use Rattle.lines.specs.Lines.{spaced, closed, usedBytes, portionBytes, refusalBytes, endBytes, lineRoom, hasRoom, LinePut, PartPut}
+use Rattle.text.specs.Decimal.{decimal}
+use Rattle.text.specs.Lines.{spaced, closed, usedBytes, portionBytes, refusalBytes, endBytes, lineRoom, hasRoom, LinePut}
+use Rattle.lines.specs.Parts.{PartPut}
 
 -- ---- parts
 
@@ -74,11 +75,11 @@ module _ (room long filled : ℕ) where
 
 -- ---- the whole line
 
-module _ (buffer : List ℕ) (filled : ℕ) {room : Bool} (told : room ≡ hasRoom lineRoom buffer filled) where
+module _ (buffer : List ℕ) (filled : ℕ) {room : Bool} (told : room ≡ hasRoom lineRoom (length buffer) filled) where
   -- without room nothing is put
   pub line-kept : not room ≡ true → (bytes : List ℕ) → LinePut bytes buffer filled buffer filled
   line-kept e bytes =
-      let none : hasRoom lineRoom buffer filled ≡ false = sym told ∙ not-true room e in
+      let none : hasRoom lineRoom (length buffer) filled ≡ false = sym told ∙ not-true room e in
       record { content = rw none refl; holds = rw none refl; short = omega arith }
 
   module _ (e : not room ≡ false) where
@@ -88,10 +89,10 @@ module _ (buffer : List ℕ) (filled : ℕ) {room : Bool} (told : room ≡ hasRo
     -- with room all of it is
     pub line-put : {bytes after : List ℕ} {r : ℕ} → PartPut bytes lineRoom buffer filled after r → LinePut bytes buffer filled after r
     line-put p =
-        let some : hasRoom lineRoom buffer filled ≡ true = sym told ∙ not-false room e in
+        let some : hasRoom lineRoom (length buffer) filled ≡ true = sym told ∙ not-false room e in
         record { content = rw some (p .content); holds = rw some (p .behind); short = omega (arith, p .behind, p .short) }
 
 -- with room or without, the buffer is as long as before
 pub line-long : {bytes buffer after : List ℕ} {filled r : ℕ} → LinePut bytes buffer filled after r → length after ≡ length buffer
 line-long {bytes} {buffer} {filled = filled} l =
-    ap length (l .content) ∙ by-test (λ t. length (cond t (sets buffer filled bytes) buffer) ≡ length buffer) (hasRoom lineRoom buffer filled) (λ _. length-sets buffer filled bytes) (λ _. refl)
+    ap length (l .content) ∙ by-test (λ t. length (cond t (sets buffer filled bytes) buffer) ≡ length buffer) (hasRoom lineRoom (length buffer) filled) (λ _. length-sets buffer filled bytes) (λ _. refl)

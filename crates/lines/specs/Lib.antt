@@ -1,3 +1,2 @@
--- The lines of the listing as bytes.
-pub mod Decimal
-pub mod Lines
+-- The contracts of the functions that put the parts of a line.
+pub mod Parts

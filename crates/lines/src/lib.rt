@@ -1,5 +1,5 @@
 // The lines of the listing, put into a lent buffer behind what it holds: a portion, a refusal, the end.
-ghost use Rattle.lines.specs.Lines.{RoomTold, LinePut, portionBytes, refusalBytes, endBytes};
+ghost use Rattle.text.specs.Lines.{RoomTold, LinePut, portionBytes, refusalBytes, endBytes};
 use crate::parts::put_closed;
 use crate::parts::put_number;
 use crate::parts::put_spaced;

@@ -2,8 +2,9 @@
 ghost use mathlib.Core.Path.{_≡_};
 ghost use Prim.Native.Nat.{_+_, _≤_, _<_};
 ghost use lib.ListN.{length};
-ghost use Rattle.lines.specs.Decimal.{digitCount, decimal};
-ghost use Rattle.lines.specs.Lines.{none, spaced, closed, usedBytes, PartPut};
+ghost use Rattle.text.specs.Decimal.{digitCount, decimal};
+ghost use Rattle.text.specs.Lines.{dash, spaced, closed, usedBytes};
+ghost use Rattle.lines.specs.Parts.{PartPut};
 use rules::Used;
 
 fn digit_count(n: u64) -> usize
@@ -42,9 +43,9 @@ pub(crate) fn put_spaced(n: u64, buffer: &mut [u8], at: usize) -> usize
     put_number(n, buffer, at + 1)
 }
 
-fn put_none(buffer: &mut [u8], at: usize) -> usize
+fn put_dash(buffer: &mut [u8], at: usize) -> usize
     requires { ⌜ at + 2 ≤ length (now buffer) ⌝ }
-    ensures { λ r. ⌜ PartPut none 2 (now (buffer .entry)) at (now (buffer .exit)) r ⌝ }
+    ensures { λ r. ⌜ PartPut dash 2 (now (buffer .entry)) at (now (buffer .exit)) r ⌝ }
 {
     buffer[at] = b' ';
     buffer[at + 1] = b'-';
@@ -75,12 +76,12 @@ pub(crate) fn put_used(used: Used, buffer: &mut [u8], at: usize) -> usize
             put_closed(owner as u64, b's', buffer, behind)
         }
         Used::Burned(owner) => {
-            let behind = put_none(buffer, at);
+            let behind = put_dash(buffer, at);
             put_closed(owner as u64, b's', buffer, behind)
         }
         Used::Idle => {
-            let behind = put_none(buffer, at);
-            put_none(buffer, behind)
+            let behind = put_dash(buffer, at);
+            put_dash(buffer, behind)
         }
     }
 }

@@ -12,8 +12,8 @@ use Rattle.rules.specs.Refusals.{first}
 use Rattle.rules.specs.Table.{tableRows}
 use Rattle.rules.specs.Walks.{walkLeft}
 use Rattle.promises.proofs.Walks.{walk-left-falls, walk-left-bound}
-use Rattle.script.specs.declared.Line.{Line}
-use Rattle.script.specs.declared.Line.the-variants.{Frame, Guest, Arrive, Done, Advance, Malformed}
+use Rattle.text.specs.declared.Line.{Line}
+use Rattle.text.specs.declared.Line.the-variants.{Frame, Guest, Arrive, Done, Advance, Malformed}
 use Rattle.listing.specs.declared.Stage.{Stage}
 use Rattle.listing.specs.declared.Stage.the-variants.{Frames, Guests, Commands, Over}
 use Rattle.listing.specs.declared.Held.{Held}

@@ -10,9 +10,9 @@ use lib.ListN.{length, getD, take, drop, length-drop, drop-of-length-le}
 use lib.Seq.{drop-cons, drop-drop}
 use borrow.Author.Tests.{ne-eqb}
 use Rattle.laws.proofs.Cases.{by-test}
-use Rattle.script.specs.declared.Line.{Line}
-use Rattle.script.specs.declared.Line.the-variants.{Malformed}
-use Rattle.script.specs.Script.{lineOf}
+use Rattle.text.specs.declared.Line.{Line}
+use Rattle.text.specs.declared.Line.the-variants.{Malformed}
+use Rattle.text.specs.Script.{lineOf}
 use Rattle.listing.specs.Listing.{onto, linesIn, asked}
 use Rattle.listing.specs.Stepping.{lineLength, lineAt, behind}
 

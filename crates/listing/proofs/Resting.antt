@@ -18,9 +18,9 @@ use Rattle.rules.specs.Walks.{portionPlace, walkLines, walkState, walkLeft}
 use Rattle.promises.proofs.Calling.{MayAdvance, may-advance, may-stay, advance-allowed, advance-nothing, sound-kept}
 use Rattle.promises.proofs.Starting.{fresh-is-sound}
 use Rattle.promises.proofs.Walks.{walk-on, walk-joins, walk-reaches}
-use Rattle.script.specs.declared.Line.{Line}
-use Rattle.script.specs.declared.Line.the-variants.{Frame, Guest, Arrive, Done, Advance, Malformed}
-use Rattle.lines.specs.Lines.{refusalBytes, endBytes}
+use Rattle.text.specs.declared.Line.{Line}
+use Rattle.text.specs.declared.Line.the-variants.{Frame, Guest, Arrive, Done, Advance, Malformed}
+use Rattle.text.specs.Lines.{refusalBytes, endBytes}
 use Rattle.listing.specs.declared.Stage.{Stage}
 use Rattle.listing.specs.declared.Stage.the-variants.{Frames, Guests, Commands, Over}
 use Rattle.listing.specs.declared.Held.{Held}

@@ -6,9 +6,9 @@ use Rattle.rules.specs.Places.{model, packed, freshState}
 use Rattle.rules.specs.Sound.{inRange, sound}
 use Rattle.rules.specs.Calls.{stateAfter}
 use Rattle.rules.specs.Lines.{lines, linesOf}
-use Rattle.script.specs.Script.{lineOf}
-use Rattle.lines.specs.Lines.{portionBytes, refusalBytes, endBytes}
-use Rattle.lines.specs.Decimal.{decimal}
+use Rattle.text.specs.Script.{lineOf}
+use Rattle.text.specs.Lines.{portionBytes, refusalBytes, endBytes}
+use Rattle.text.specs.Decimal.{decimal}
 use Rattle.listing.specs.Listing.{listingOf, asked, listed, guests, checked, commands, printed}
 use Rattle.listing.specs.Worked.{WorkedHolds, OrderHolds}
 

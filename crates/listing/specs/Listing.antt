@@ -14,10 +14,10 @@ use Rattle.rules.specs.Places.{freshState}
 use Rattle.rules.specs.Calls.{Call, arrives, finishes, advances, numberGiven, stateAfter}
 use Rattle.rules.specs.Lines.{linesOf}
 use Rattle.rules.specs.Walks.{portionPlace}
-use Rattle.script.specs.declared.Line.{Line}
-use Rattle.script.specs.declared.Line.the-variants.{Frame, Guest, Arrive, Done, Advance, Malformed}
-use Rattle.script.specs.Script.{lineOf}
-use Rattle.lines.specs.Lines.{portionBytes, refusalBytes, endBytes}
+use Rattle.text.specs.declared.Line.{Line}
+use Rattle.text.specs.declared.Line.the-variants.{Frame, Guest, Arrive, Done, Advance, Malformed}
+use Rattle.text.specs.Script.{lineOf}
+use Rattle.text.specs.Lines.{portionBytes, refusalBytes, endBytes}
 
 -- ---- the lines of the input
 

@@ -14,10 +14,10 @@ use Rattle.rules.specs.Table.{tableRows, noTable}
 use Rattle.rules.specs.Places.{freshState, noState}
 use Rattle.rules.specs.Calls.{Call, arrives, finishes, advances, numberGiven, stateAfter}
 use Rattle.rules.specs.Walks.{portionPlace, walkLines, walkState, walkLeft}
-use Rattle.script.specs.declared.Line.{Line}
-use Rattle.script.specs.declared.Line.the-variants.{Frame, Guest, Arrive, Done, Advance, Malformed}
-use Rattle.script.specs.Script.{lineOf}
-use Rattle.lines.specs.Lines.{refusalBytes, endBytes, lineRoom, hasRoom}
+use Rattle.text.specs.declared.Line.{Line}
+use Rattle.text.specs.declared.Line.the-variants.{Frame, Guest, Arrive, Done, Advance, Malformed}
+use Rattle.text.specs.Script.{lineOf}
+use Rattle.text.specs.Lines.{refusalBytes, endBytes, lineRoom, hasRoom}
 use Rattle.listing.specs.declared.Stage.{Stage}
 use Rattle.listing.specs.declared.Stage.the-variants.{Frames, Guests, Commands, Over}
 use Rattle.listing.specs.declared.Held.{Held}
@@ -140,9 +140,9 @@ stepRoom = portionPlaces * lineRoom
 
 -- a step of the code: what is held next, how many bytes the buffer holds then, and its whole content; without room nothing happens
 pub record Stepping (input : List ℕ) (h : Held) (buffer : List ℕ) (filled : ℕ) (after : List ℕ) (r : Stepped) : Type 0 where
-  pub held : r .held ≡ cond (hasRoom stepRoom buffer filled) (heldOf (stepOf input h)) h
-  pub holds : r .filled ≡ cond (hasRoom stepRoom buffer filled) (filled + length (putOf (stepOf input h))) filled
-  pub content : after ≡ cond (hasRoom stepRoom buffer filled) (sets buffer filled (putOf (stepOf input h))) buffer
+  pub held : r .held ≡ cond (hasRoom stepRoom (length buffer) filled) (heldOf (stepOf input h)) h
+  pub holds : r .filled ≡ cond (hasRoom stepRoom (length buffer) filled) (filled + length (putOf (stepOf input h))) filled
+  pub content : after ≡ cond (hasRoom stepRoom (length buffer) filled) (sets buffer filled (putOf (stepOf input h))) buffer
   pub short : r .filled ≤ filled + stepRoom
 
 -- what the program holds at first

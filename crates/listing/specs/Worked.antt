@@ -2,7 +2,7 @@
 use mathlib.Core.Path.{_≡_}
 use mathlib.Core.List.{List, [], _∷_, _++_}
 use Prim.Native.Nat.{ℕ}
-use Rattle.lines.specs.Lines.{refusalBytes, endBytes}
+use Rattle.text.specs.Lines.{refusalBytes, endBytes}
 use Rattle.listing.specs.Listing.{listingOf}
 
 -- "Input lines: `F 8`, `G 3 4`, `G 2 8`, `A 0`, `A 1`, `R 2`, `D 0`, `R 2`, `A 0`, `R 4`, `D 1`, `D 0`, `R 5`"

@@ -8,7 +8,7 @@ use lib.ListN.{length, take, drop, length-append}
 use lib.Seq.{sets, sets-eq, take-at, length-take-le}
 use borrow.Author.Tests.{leb-true}
 use Rattle.laws.proofs.Cases.{and-both}
-use Rattle.lines.specs.Lines.{RoomTold}
+use Rattle.text.specs.Lines.{RoomTold}
 use Rattle.listing.specs.declared.Held.{Held}
 use Rattle.listing.specs.declared.Stepped.{Stepped}
 use Rattle.listing.specs.Stepping.{putOf, heldOf, stepOf, goesOn, toGo, stepRoom, putOut, heldAfter, Begun, GoingTold, Stepping}

@@ -14,7 +14,8 @@ use Rattle.laws.proofs.Parts.{part-slice}
 use Rattle.laws.proofs.Cases.{and-both, and-intro, by-test}
 use Rattle.script.specs.declared.Number.{Number}
 use Rattle.laws.specs.Digits.{valueIn}
-use Rattle.script.specs.Numbers.{mostDigits, isDigit, digitsIn, wellFormed, Got, none, got, numberAt, gotIn}
+use Rattle.text.specs.Numbers.{mostDigits, isDigit, digitsIn, wellFormed, Got, noNumber, got, numberAt}
+use Rattle.script.specs.Parts.{gotIn}
 
 -- ---- a digit
 
@@ -149,7 +150,7 @@ module _ (l : List ℕ) (at end : ℕ) (whole : end ≡ at + digitsIn (drop at l
 -- ---- a number behind its space
 
 module _ (l : List ℕ) (at : ℕ) where
-  pub number-end : length l ≤ at → none ≡ numberAt (drop at l)
+  pub number-end : length l ≤ at → noNumber ≡ numberAt (drop at l)
   unfolding numberAt
   number-end h = rw (drop-of-length-le l h)
 
@@ -157,12 +158,12 @@ module _ (l : List ℕ) (at : ℕ) where
     number-cons : numberAt (drop at l) ≡ numberAt (getD l at 0 ∷ drop (suc at) l)
     number-cons = ap numberAt (drop-cons l at 0 inside)
 
-    pub number-elsewhere : (getD l at 0 ≡ 32 → ⊥) → none ≡ numberAt (drop at l)
+    pub number-elsewhere : (getD l at 0 ≡ 32 → ⊥) → noNumber ≡ numberAt (drop at l)
     unfolding numberAt
     number-elsewhere n = sym (number-cons ∙ rw (ne-eqb (getD l at 0) 32 n))
 
     module _ (space : getD l at 0 ≡ 32) where
-      pub number-malformed : false ≡ wellFormed (drop (at + 1) l) → none ≡ numberAt (drop at l)
+      pub number-malformed : false ≡ wellFormed (drop (at + 1) l) → noNumber ≡ numberAt (drop at l)
       unfolding numberAt
       number-malformed e = sym (number-cons ∙ rw (space, ← (add-one at), ← e))
 
@@ -176,7 +177,7 @@ module _ (l : List ℕ) (at : ℕ) where
           sym (number-cons ∙ rw (space, ← (add-one at), ← e, ← digits, rest, ← g))
 
 -- no number
-pub number-none : (l : List ℕ) {r : Number} {g : Got} → r ≡ record { ok = false; value = 0; end = 0 } → none ≡ g → (gotIn l r ≡ g) × (r .end ≤ length l)
+pub number-none : (l : List ℕ) {r : Number} {g : Got} → r ≡ record { ok = false; value = 0; end = 0 } → noNumber ≡ g → (gotIn l r ≡ g) × (r .end ≤ length l)
 number-none l e f = (ap (gotIn l) e ∙ f, rw e (omega arith))
 
 -- well formed, it has few digits

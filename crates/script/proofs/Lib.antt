@@ -1,4 +1,3 @@
 -- Laws of lines and their digits.
 pub mod Digits
 pub mod Lines
-pub mod Told

@@ -10,9 +10,10 @@ use lib.ListN.{length, getD, drop, length-drop}
 use lib.Seq.{drop-cons, getD-drop}
 use borrow.Author.Tests.{ne-eqb}
 use Rattle.script.specs.declared.Number.{Number}
-use Rattle.script.specs.declared.Line.the-variants.{Frame, Guest, Arrive, Done, Advance, Malformed}
-use Rattle.script.specs.Numbers.{Got, none, got, numberAt, gotIn}
-use Rattle.script.specs.Script.{ends, ended, lastAt, guestEnd, guestLine, lineWith, oneLine, lineOf}
+use Rattle.text.specs.declared.Line.the-variants.{Frame, Guest, Arrive, Done, Advance, Malformed}
+use Rattle.text.specs.Numbers.{Got, noNumber, got, numberAt}
+use Rattle.text.specs.Script.{ends, ended, lastAt, guestEnd, guestLine, lineWith, oneLine, lineOf}
+use Rattle.script.specs.Parts.{gotIn}
 
 -- ---- the end
 
@@ -28,29 +29,29 @@ module _ (l : List ℕ) (at : ℕ) where
 -- ---- what was read
 
 module _ (l : List ℕ) (n : Number) {g : Got} (e : gotIn l n ≡ g) where
-  pub read-none : n .ok ≡ false → none ≡ g
-  read-none h = sym (ap (λ (t : Bool). cond t (got (n .value) (drop (n .end) l)) none) h) ∙ e
+  pub read-none : n .ok ≡ false → noNumber ≡ g
+  read-none h = sym (ap (λ (t : Bool). cond t (got (n .value) (drop (n .end) l)) noNumber) h) ∙ e
 
   pub read-got : n .ok ≡ true → got (n .value) (drop (n .end) l) ≡ g
-  read-got h = sym (ap (λ (t : Bool). cond t (got (n .value) (drop (n .end) l)) none) h) ∙ e
+  read-got h = sym (ap (λ (t : Bool). cond t (got (n .value) (drop (n .end) l)) noNumber) h) ∙ e
 
-pub no-number-none : (l : List ℕ) {r : Number} → r ≡ record { ok = false; value = 0; end = 0 } → gotIn l r ≡ none
+pub no-number-none : (l : List ℕ) {r : Number} → r ≡ record { ok = false; value = 0; end = 0 } → gotIn l r ≡ noNumber
 no-number-none l e = ap (gotIn l) e
 
 -- ---- the last number
 
 module _ (l bs : List ℕ) (n : Number) (e : gotIn l n ≡ numberAt bs) where
-  pub last-none : n .ok ≡ false → none ≡ lastAt bs
+  pub last-none : n .ok ≡ false → noNumber ≡ lastAt bs
   unfolding lastAt
   last-none h = ap ended (read-none l n e h)
 
-  pub last-open : n .ok ≡ true → false ≡ ends (drop (n .end) l) → none ≡ lastAt bs
+  pub last-open : n .ok ≡ true → false ≡ ends (drop (n .end) l) → noNumber ≡ lastAt bs
   unfolding lastAt
-  last-open h f = ap (λ (t : Bool). cond t (got (n .value) (drop (n .end) l)) none) f ∙ ap ended (read-got l n e h)
+  last-open h f = ap (λ (t : Bool). cond t (got (n .value) (drop (n .end) l)) noNumber) f ∙ ap ended (read-got l n e h)
 
   pub last-got : n .ok ≡ true → true ≡ ends (drop (n .end) l) → gotIn l n ≡ lastAt bs
   unfolding lastAt
-  last-got h f = e ∙ sym (read-got l n e h) ∙ ap (λ (t : Bool). cond t (got (n .value) (drop (n .end) l)) none) f ∙ ap ended (read-got l n e h)
+  last-got h f = e ∙ sym (read-got l n e h) ∙ ap (λ (t : Bool). cond t (got (n .value) (drop (n .end) l)) noNumber) f ∙ ap ended (read-got l n e h)
 
   -- ---- a guest's line
 

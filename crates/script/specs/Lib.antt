@@ -1,3 +1,2 @@
--- What a line of input is.
-pub mod Numbers
-pub mod Script
+-- The contract of the functions that read a line's numbers.
+pub mod Parts

@@ -4,19 +4,11 @@ ghost use mathlib.Core.Path.{_≡_};
 ghost use Prim.Native.Nat.{_+_, _-_, _*_, _≤_, _<_};
 ghost use lib.ListN.{length, drop};
 ghost use lib.Seq.{slice};
-ghost use Rattle.script.specs.Script.{ends, lastAt, guestLine, lineWith, oneLine, LineTold};
+ghost use Rattle.text.specs.Script.{ends, lastAt, guestLine, lineWith, oneLine, LineTold};
 ghost use Rattle.laws.specs.Digits.{valueIn};
-ghost use Rattle.script.specs.Numbers.{isDigit, digitsIn, mostDigits, wellFormed, numberAt, gotIn};
-
-// What a line asks for; the letters are `F`, `G`, `A`, `D` and `R`.
-pub enum Line {
-    Frame(u64),
-    Guest(u64, u64),
-    Arrive(u64),
-    Done(u64),
-    Advance(u64),
-    Malformed,
-}
+ghost use Rattle.text.specs.Numbers.{isDigit, digitsIn, mostDigits, wellFormed, numberAt};
+ghost use Rattle.script.specs.Parts.{gotIn};
+use text::Line;
 
 // A number that was read, and the place behind it.
 struct Number {

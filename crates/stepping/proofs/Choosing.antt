@@ -15,10 +15,10 @@ use Rattle.rules.specs.declared.Outcome.{Outcome}
 use Rattle.rules.specs.Refusals.{first}
 use Rattle.rules.specs.Table.{tableRows}
 use Rattle.rules.specs.Calls.{Arrived, Finished, stateAfter}
-use Rattle.script.specs.declared.Line.{Line}
-use Rattle.script.specs.declared.Line.the-variants.{Frame, Guest, Arrive, Done, Advance, Malformed}
-use Rattle.script.proofs.Line as declared-line
-use Rattle.lines.specs.Lines.{hasRoom}
+use Rattle.text.specs.declared.Line.{Line}
+use Rattle.text.specs.declared.Line.the-variants.{Frame, Guest, Arrive, Done, Advance, Malformed}
+use Rattle.text.proofs.Line as declared-line
+use Rattle.text.specs.Lines.{hasRoom}
 use Rattle.listing.specs.declared.Stage.{Stage}
 use Rattle.listing.specs.declared.Stage.the-variants.{Frames, Guests}
 use Rattle.listing.specs.declared.Held.{Held}
@@ -105,11 +105,11 @@ did-as e d = rw e d
 pub did-long : {s : Step} {buffer after : List ℕ} {filled : ℕ} {r : Stepped} → Did s buffer filled after r → length after ≡ length buffer
 did-long {s} {buffer} {filled = filled} d = ap length (d .content) ∙ length-sets buffer filled (putOf s)
 
-module _ (input : List ℕ) (h : Held) (buffer : List ℕ) (filled : ℕ) {may : Bool} (told : may ≡ hasRoom stepRoom buffer filled) where
+module _ (input : List ℕ) (h : Held) (buffer : List ℕ) (filled : ℕ) {may : Bool} (told : may ≡ hasRoom stepRoom (length buffer) filled) where
   -- without room nothing happens
   pub step-kept : not may ≡ true → Stepping input h buffer filled buffer (record { held = h; filled = filled })
   step-kept e =
-      let none : hasRoom stepRoom buffer filled ≡ false = sym told ∙ not-true may e in
+      let none : hasRoom stepRoom (length buffer) filled ≡ false = sym told ∙ not-true may e in
       record { held = rw none refl; holds = rw none refl; content = rw none refl; short = omega arith }
 
   module _ (e : not may ≡ false) where
@@ -120,7 +120,7 @@ module _ (input : List ℕ) (h : Held) (buffer : List ℕ) (filled : ℕ) {may :
     pub step-done : (stage : Stage) → h .stage ≡ stage → {after : List ℕ} {r : Stepped} → Did (stepIn stage input h) buffer filled after r → Stepping input h buffer filled after r
     unfolding stepOf
     step-done stage f d =
-        let some : hasRoom stepRoom buffer filled ≡ true = sym told ∙ not-false may e in
+        let some : hasRoom stepRoom (length buffer) filled ≡ true = sym told ∙ not-false may e in
         let same : stepIn stage input h ≡ stepOf input h = ap (λ (x : Stage). stepIn x input h) (sym f) in
         record {
           held = rw some (d .held ∙ ap heldOf same);
@@ -136,10 +136,10 @@ module _ {input : List ℕ} {h : Held} {buffer after : List ℕ} {filled : ℕ} 
   pub stepping-long : length after ≡ length buffer
   stepping-long =
       ap length (s .content)
-      ∙ by-test (λ t. length (cond t (sets buffer filled (putOf (stepOf input h))) buffer) ≡ length buffer) (hasRoom stepRoom buffer filled) (λ _. length-sets buffer filled (putOf (stepOf input h))) (λ _. refl)
+      ∙ by-test (λ t. length (cond t (sets buffer filled (putOf (stepOf input h))) buffer) ≡ length buffer) (hasRoom stepRoom (length buffer) filled) (λ _. length-sets buffer filled (putOf (stepOf input h))) (λ _. refl)
 
   module _ (k : filled + stepRoom ≤ length buffer) where
-    some : hasRoom stepRoom buffer filled ≡ true
+    some : hasRoom stepRoom (length buffer) filled ≡ true
     some = le-leb (filled + stepRoom) (length buffer) k
 
     -- with room the next is held, and the bytes are put

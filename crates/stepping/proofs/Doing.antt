@@ -29,7 +29,7 @@ use Rattle.rules.specs.Calls.{advanceRows, told, kept, Freshened, NumberTold}
 use Rattle.rules.specs.Lines.{ticksOn, lines}
 use Rattle.rules.specs.Walks.{portionPlace, noPortion, walkLines, Walked}
 use Rattle.promises.proofs.Outcomes.{refusal-counts}
-use Rattle.lines.specs.Lines.{portionBytes, refusalBytes, lineRoom, hasRoom, LinePut}
+use Rattle.text.specs.Lines.{portionBytes, refusalBytes, lineRoom, hasRoom, LinePut}
 use Rattle.listing.specs.declared.Held.{Held}
 use Rattle.listing.specs.Listing.{refusalIn, portionsBytes, withGuest}
 use Rattle.listing.specs.Stepping.{Step, step, stops, goingOn, checks, walks}
@@ -43,7 +43,7 @@ pub did-nothing : (buffer : List ℕ) (filled : ℕ) {s : Step} {held : Held} �
 did-nothing buffer filled e = rw e (record { held = refl; holds = omega arith; content = refl; short = omega arith })
 
 module _ {bytes buffer after : List ℕ} {filled r : ℕ} (l : LinePut bytes buffer filled after r) (h : filled + lineRoom ≤ length buffer) where
-  some-room : hasRoom lineRoom buffer filled ≡ true
+  some-room : hasRoom lineRoom (length buffer) filled ≡ true
   some-room = le-leb (filled + lineRoom) (length buffer) h
 
   pub line-holds : r ≡ filled + length bytes

@@ -16,7 +16,7 @@ use rules::Answer;
 use rules::Outcome;
 use rules::State;
 use rules::Table;
-use script::Line;
+use text::Line;
 
 pub(crate) fn going_on(at: usize, table: Table, state: State, left: u64) -> Held
     ensures { λ r. ⌜ r ≡ goingOn at table state left ⌝ }

@@ -3,7 +3,7 @@ ghost use mathlib.Core.Path.{_≡_};
 ghost use Prim.Native.Nat.{_+_, _≤_};
 ghost use lib.ListN.{length, drop};
 ghost use Rattle.listing.specs.Stepping.{lineLength, lineAt, behind};
-use script::Line;
+use text::Line;
 
 // What the line asks for, and the place behind it.
 pub(crate) struct Next {

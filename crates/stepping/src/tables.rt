@@ -21,7 +21,7 @@ use rules::Entry;
 use rules::GUEST_PLACES;
 use rules::State;
 use rules::Table;
-use script::Line;
+use text::Line;
 
 fn framed(frame: u64) -> Table
     ensures { λ r. ⌜ r ≡ framed frame ⌝ }

@@ -3,7 +3,7 @@ use Prim.Native.Nat.{_+_, _≤_}
 use native.Mathlib.Omega.{arith}
 use lib.ListN.{length, length-set}
 use denote.Ref.{now}
-use Rattle.lines.specs.Lines.{lineRoom}
+use Rattle.text.specs.Lines.{lineRoom}
 use Rattle.lines.proofs.Putting.{refusal-parts, line-kept, room-long, line-put, line-long}
 use borrow.Author.Needs.{needs}
 use Rattle.lines.proofs.put_refusal.Statement.{statement}

@@ -1,6 +1,7 @@
 -- `lines::parts::digit_count` meets its contract.
 use native.Mathlib.Omega.{arith}
-use Rattle.lines.proofs.Decimal.{word-digits, Counted, counted-start, counted-few, counted-more, counted-end}
+use Rattle.text.proofs.Decimal.{word-digits}
+use Rattle.lines.proofs.Decimal.{Counted, counted-start, counted-few, counted-more, counted-end}
 use borrow.Author.Needs.{needs}
 use Rattle.lines.proofs.parts.digit_count.Statement.{statement}
 use Rattle.lines.proofs.parts.digit_count.Tie as tie

@@ -2,7 +2,8 @@
 use Prim.Native.Nat.{_+_, _-_, _≤_}
 use native.Mathlib.Omega.{arith}
 use denote.Ref.{now}
-use Rattle.lines.proofs.Decimal.{decimal-long, Stored, stored-start, stored-long, stored-more, stored-end}
+use Rattle.text.proofs.Decimal.{decimal-long}
+use Rattle.lines.proofs.Decimal.{Stored, stored-start, stored-long, stored-more, stored-end}
 use borrow.Author.Needs.{needs}
 use Rattle.lines.proofs.parts.put_number.Statement.{statement}
 use Rattle.lines.proofs.parts.put_number.Tie as tie

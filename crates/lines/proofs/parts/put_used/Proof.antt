@@ -1,6 +1,6 @@
 -- `lines::parts::put_used` meets its contract.
 use native.Mathlib.Omega.{arith}
-use Rattle.lines.specs.Lines.{usedBytes}
+use Rattle.text.specs.Lines.{usedBytes}
 use Rattle.lines.proofs.Putting.{part-on, part-within}
 use borrow.Author.Needs.{needs}
 use Rattle.lines.proofs.parts.put_used.Statement.{statement}
@@ -27,8 +27,8 @@ put-closed-requires-2 c κs = search needs
 enum-known-used-3 : tie.Need-enum-known-used-3
 enum-known-used-3 c = search needs
 
-put-none-requires : tie.Need-put-none-requires
-put-none-requires c κs = search needs
+put-dash-requires : tie.Need-put-dash-requires
+put-dash-requires c κs = search needs
 
 put-closed-requires-3 : tie.Need-put-closed-requires-3
 put-closed-requires-3 c κs = search needs
@@ -36,11 +36,11 @@ put-closed-requires-3 c κs = search needs
 enum-told : tie.Need-enum-told
 enum-told c = search needs
 
-put-none-requires-2 : tie.Need-put-none-requires-2
-put-none-requires-2 c κs = search needs
+put-dash-requires-2 : tie.Need-put-dash-requires-2
+put-dash-requires-2 c κs = search needs
 
-put-none-requires-3 : tie.Need-put-none-requires-3
-put-none-requires-3 c κs = search needs
+put-dash-requires-3 : tie.Need-put-dash-requires-3
+put-dash-requires-3 c κs = search needs
 
 same-length : tie.Need-same-length
 same-length c = search needs
@@ -70,7 +70,7 @@ unfolding usedBytes
 returns-3 c =
     let second = c .before .before in
     let first = second .before .before .before .before in
-    rw (first .before .before .before .used3 .given .1) (part-within (omega arith) (part-on (first .put-none .ensures) (second .put-closed3 .ensures)))
+    rw (first .before .before .before .used3 .given .1) (part-within (omega arith) (part-on (first .put-dash .ensures) (second .put-closed3 .ensures)))
 
 same-length-4 : tie.Need-same-length-4
 same-length-4 c = search needs
@@ -80,7 +80,7 @@ unfolding usedBytes
 returns-4 c =
     let second = c .before .before in
     let first = second .before .before .before .before in
-    rw (first .before .before .enum-told .given .1) (part-within (omega arith) (part-on (first .put-none2 .ensures) (second .put-none3 .ensures)))
+    rw (first .before .before .enum-told .given .1) (part-within (omega arith) (part-on (first .put-dash2 .ensures) (second .put-dash3 .ensures)))
 
 pub put-used-spec : {M : Type 1} → statement M
 put-used-spec =
@@ -93,11 +93,11 @@ put-used-spec =
     put-spaced-requires-2
     put-closed-requires-2
     enum-known-used-3
-    put-none-requires
+    put-dash-requires
     put-closed-requires-3
     enum-told
-    put-none-requires-2
-    put-none-requires-3
+    put-dash-requires-2
+    put-dash-requires-3
     same-length
     returns
     same-length-2

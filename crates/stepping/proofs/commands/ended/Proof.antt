@@ -2,7 +2,7 @@
 use mathlib.Core.Path.{sym, ap}
 use native.Mathlib.Omega.{arith}
 use Rattle.lines.proofs.Putting.{line-long}
-use Rattle.lines.specs.Lines.{endBytes}
+use Rattle.text.specs.Lines.{endBytes}
 use Rattle.listing.specs.Stepping.{step}
 use Rattle.stepping.proofs.Doing.{did-line}
 use borrow.Author.Needs.{needs}

@@ -5,7 +5,6 @@ use Prim.Native.Nat.{ℕ, suc}
 use lib.Dec.{leb, eqb}
 use lib.ListN.{getD, take, drop}
 use Rattle.laws.specs.Digits.{valueIn}
-use Rattle.script.specs.declared.Number.{Number}
 
 -- "1 to 13 digits"
 abbrev pub mostDigits : ℕ
@@ -27,15 +26,11 @@ wellFormed bs = leb 1 (digitsIn bs) && leb (digitsIn bs) mostDigits && (eqb (dig
 
 -- a number and what follows it, or none
 pub data Got : Type 0 where
-  none : Got
+  noNumber : Got
   got : (value : ℕ) → (rest : List ℕ) → Got
 
 -- "each after one space"
 unfoldable pub numberAt : List ℕ → Got
 unfolding digitsIn valueIn wellFormed
-numberAt [] = none
-numberAt (b ∷ bs) = cond (eqb b 32 && wellFormed bs) (got (valueIn 0 (take (digitsIn bs) bs)) (drop (digitsIn bs) bs)) none
-
--- what the code's answer says, on its line
-abbrev pub gotIn : List ℕ → Number → Got
-gotIn line r = cond (r .ok) (got (r .value) (drop (r .end) line)) none
+numberAt [] = noNumber
+numberAt (b ∷ bs) = cond (eqb b 32 && wellFormed bs) (got (valueIn 0 (take (digitsIn bs) bs)) (drop (digitsIn bs) bs)) noNumber

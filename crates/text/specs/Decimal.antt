@@ -8,9 +8,9 @@ use lib.ListN.{getD}
 use Rattle.laws.specs.Digits.{valueIn}
 
 -- the last digits of n, so many
-unfoldable pub digits : ℕ → ℕ → List ℕ
-digits zero n = []
-digits (suc count) n = digits count (n / 10) ++ ((48 + n % 10) ∷ [])
+unfoldable pub lastDigits : ℕ → ℕ → List ℕ
+lastDigits zero n = []
+lastDigits (suc count) n = lastDigits count (n / 10) ++ ((48 + n % 10) ∷ [])
 
 -- one digit below ten, and else one more than a tenth of it has; no number has more than `most` tens to go through
 unfoldable pub digitCount : ℕ → ℕ → ℕ
@@ -19,8 +19,8 @@ digitCount (suc most) n = cond (ltb n 10) 1 (suc (digitCount most (n / 10)))
 
 -- a tenth is less than the number, so that n itself bounds the steps
 unfoldable pub decimal : ℕ → List ℕ
-unfolding digits digitCount
-decimal n = digits (digitCount n n) n
+unfolding lastDigits digitCount
+decimal n = lastDigits (digitCount n n) n
 
 -- ---- what it means
 

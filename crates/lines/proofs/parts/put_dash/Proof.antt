@@ -1,12 +1,12 @@
--- `lines::parts::put_none` meets its contract.
+-- `lines::parts::put_dash` meets its contract.
 use Prim.Native.Nat.{_+_}
 use native.Mathlib.Omega.{arith}
 use lib.ListN.{set, length-set}
 use denote.Ref.{now}
 use Rattle.lines.proofs.Putting.{part-byte, part-on}
 use borrow.Author.Needs.{needs}
-use Rattle.lines.proofs.parts.put_none.Statement.{statement}
-use Rattle.lines.proofs.parts.put_none.Tie as tie
+use Rattle.lines.proofs.parts.put_dash.Statement.{statement}
+use Rattle.lines.proofs.parts.put_dash.Tie as tie
 
 slice-write-buffer : tie.Need-slice-write-buffer
 slice-write-buffer c = search needs
@@ -29,7 +29,7 @@ returns c =
     let at = c .args .at in
     part-on (part-byte 32 buffer at {r = at + 1} (omega arith)) (part-byte 45 (set buffer at 32) (at + 1) (omega arith))
 
-pub put-none-spec : {M : Type 1} → statement M
-put-none-spec =
+pub put-dash-spec : {M : Type 1} → statement M
+put-dash-spec =
     tie.close
     (tie.spec slice-write-buffer add-buffer slice-write-buffer-2 add-result same-length returns)

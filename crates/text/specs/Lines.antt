@@ -9,13 +9,13 @@ use lib.Seq.{sets}
 use Rattle.rules.specs.declared.Used.{Used}
 use Rattle.rules.specs.declared.Used.the-variants.{Own, SpareOf, Burned, Idle}
 use Rattle.rules.specs.declared.Portion.{Portion}
-use Rattle.lines.specs.Decimal.{decimal}
+use Rattle.text.specs.Decimal.{decimal}
 
 -- ---- the lines
 
 -- a space and `-`, for "guest or `-`" and "the owner .. or `-`"
-abbrev pub none : List ℕ
-none = 32 ∷ 45 ∷ []
+abbrev pub dash : List ℕ
+dash = 32 ∷ 45 ∷ []
 
 -- a space and a number
 abbrev pub spaced : ℕ → List ℕ
@@ -29,8 +29,8 @@ closed n last = spaced n ++ (last ∷ [])
 unfoldable pub usedBytes : Used → List ℕ
 usedBytes (Own i) = spaced i ++ closed i 111
 usedBytes (SpareOf i owner) = spaced i ++ closed owner 115
-usedBytes (Burned owner) = none ++ closed owner 115
-usedBytes Idle = none ++ none
+usedBytes (Burned owner) = dash ++ closed owner 115
+usedBytes Idle = dash ++ dash
 
 -- "one line per portion: first tick, end tick", and what it used
 unfoldable pub portionBytes : Portion → List ℕ
@@ -51,25 +51,19 @@ endBytes tick = 101 ∷ 110 ∷ 100 ∷ spaced tick ++ (10 ∷ [])
 abbrev pub lineRoom : ℕ
 lineRoom = 85
 
--- so many bytes have room behind those that the buffer holds
-abbrev pub hasRoom : ℕ → List ℕ → ℕ → Bool
-hasRoom room buffer filled = leb (filled + room) (length buffer)
+-- so many bytes have room behind those that a buffer of this length holds
+abbrev pub hasRoom : ℕ → ℕ → ℕ → Bool
+hasRoom room long filled = leb (filled + room) long
 
--- whether they have in one that is so long
+-- whether they have
 abbrev pub RoomTold : ℕ → ℕ → ℕ → Bool → Type 0
-RoomTold long filled room r = r ≡ leb (filled + room) long
+RoomTold long filled room r = r ≡ hasRoom room long filled
 
 -- a line put behind them: the whole buffer's content, and how many bytes it holds then; without room nothing is put
 pub record LinePut (bytes buffer : List ℕ) (filled : ℕ) (after : List ℕ) (r : ℕ) : Type 0 where
-  pub content : after ≡ cond (hasRoom lineRoom buffer filled) (sets buffer filled bytes) buffer
-  pub holds : r ≡ cond (hasRoom lineRoom buffer filled) (filled + length bytes) filled
+  pub content : after ≡ cond (hasRoom lineRoom (length buffer) filled) (sets buffer filled bytes) buffer
+  pub holds : r ≡ cond (hasRoom lineRoom (length buffer) filled) (filled + length bytes) filled
   pub short : r ≤ filled + lineRoom
-
--- a part of a line put at a place with room for `most` bytes: what the buffer holds then, and the place behind the part
-pub record PartPut (bytes : List ℕ) (most : ℕ) (buffer : List ℕ) (at : ℕ) (after : List ℕ) (r : ℕ) : Type 0 where
-  pub content : after ≡ sets buffer at bytes
-  pub behind : r ≡ at + length bytes
-  pub short : length bytes ≤ most
 
 -- any two outcomes that the predicates allow are equal
 pub record OneOutcome : Type 0 where

@@ -1,0 +1,3 @@
+-- The rows of the definitions, and laws of numbers in decimal.
+pub mod Decimal
+pub mod Told
