@@ -14,6 +14,7 @@ use Rattle.rules.specs.Walks.{walkLeft}
 use Rattle.promises.proofs.Walks.{walk-left-falls, walk-left-bound}
 use Rattle.text.specs.declared.Line.{Line}
 use Rattle.text.specs.declared.Line.the-variants.{Frame, Guest, Arrive, Done, Advance, Malformed}
+use Rattle.text.specs.Script.{malformed}
 use Rattle.listing.specs.declared.Stage.{Stage}
 use Rattle.listing.specs.declared.Stage.the-variants.{Frames, Guests, Commands, Over}
 use Rattle.listing.specs.declared.Held.{Held}
@@ -82,7 +83,7 @@ module _ (input : List ℕ) (h : Held) where
 
   falls-in : (stage : Stage) → h .stage ≡ stage → goesOn stage ≡ true → Less (stepIn stage input h)
   falls-in Frames e g =
-      by-test (λ t. Less (cond t (stops 16 h) (frameLine (lineAt input (h .at)) (behind input (h .at)) h))) (ltb mostInput (length input))
+      by-test (λ t. Less (cond t (stops malformed h) (frameLine (lineAt input (h .at)) (behind input (h .at)) h))) (ltb mostInput (length input))
       (λ _. over-less (rw e (omega arith)))
       (λ _. by-line frameLine (λ end. over-less (rw e (omega arith))) (λ end low high. frame-less end low high e))
   falls-in Guests e g = by-line guestLine (λ end. check-less e (first (tableRows (h .table)))) (λ end low high. guest-less end low high e)

@@ -20,6 +20,7 @@ use Rattle.promises.proofs.Starting.{fresh-is-sound}
 use Rattle.promises.proofs.Walks.{walk-on, walk-joins, walk-reaches}
 use Rattle.text.specs.declared.Line.{Line}
 use Rattle.text.specs.declared.Line.the-variants.{Frame, Guest, Arrive, Done, Advance, Malformed}
+use Rattle.text.specs.Script.{malformed}
 use Rattle.text.specs.Lines.{refusalBytes, endBytes}
 use Rattle.listing.specs.declared.Stage.{Stage}
 use Rattle.listing.specs.declared.Stage.the-variants.{Frames, Guests, Commands, Over}
@@ -54,7 +55,7 @@ pub owed-nothing : (s : State) (ls : List Line) → owed s 0 ls ≡ commands s l
 owed-nothing s ls = rw (lines-nothing s, advance-nothing s)
 
 abbrev restIn : Stage → List ℕ → Held → List ℕ
-restIn Frames input h = cond (ltb mostInput (length input)) (refusalBytes 16) (listed (asked (drop (h .at) input)))
+restIn Frames input h = cond (ltb mostInput (length input)) (refusalBytes malformed) (listed (asked (drop (h .at) input)))
 restIn Guests input h = guests (h .table) (asked (drop (h .at) input))
 restIn Commands input h = owed (h .state) (h .left) (asked (drop (h .at) input))
 restIn Over input h = []
@@ -133,11 +134,11 @@ module _ (input : List ℕ) (h : Held) where
   frame-puts : (end : ℕ) (l : Line) → Puts input (listed (l ∷ asked (drop end input))) (frameLine l end h)
   unfolding listed
   frame-puts end (Frame f) = record { put = refl; fit = tt }
-  frame-puts end (Guest q t) = stop-puts 16
-  frame-puts end (Arrive i) = stop-puts 16
-  frame-puts end (Done i) = stop-puts 16
-  frame-puts end (Advance k) = stop-puts 16
-  frame-puts end Malformed = stop-puts 16
+  frame-puts end (Guest q t) = stop-puts malformed
+  frame-puts end (Arrive i) = stop-puts malformed
+  frame-puts end (Done i) = stop-puts malformed
+  frame-puts end (Advance k) = stop-puts malformed
+  frame-puts end Malformed = stop-puts malformed
 
   check-puts : Puts input (checked (h .table) (asked (drop (h .at) input))) (checks (first (tableRows (h .table))) h)
   unfolding checked
@@ -184,9 +185,9 @@ module _ (input : List ℕ) (h : Held) where
     command-puts (Arrive i) = call-puts (arrives i) refl
     command-puts (Done i) = call-puts (finishes i) refl
     command-puts (Advance k) = walk-puts k
-    command-puts (Frame f) = stop-puts 16
-    command-puts (Guest q t) = stop-puts 16
-    command-puts Malformed = stop-puts 16
+    command-puts (Frame f) = stop-puts malformed
+    command-puts (Guest q t) = stop-puts malformed
+    command-puts Malformed = stop-puts malformed
 
   -- ---- every stage
 
@@ -197,12 +198,12 @@ module _ (input : List ℕ) (h : Held) where
   unfolding listed
   frames-put =
       by-test
-      (λ t. Puts input (cond t (refusalBytes 16) (listed (asked (drop (h .at) input)))) (cond t (stops 16 h) (frameLine (lineAt input (h .at)) (behind input (h .at)) h)))
+      (λ t. Puts input (cond t (refusalBytes malformed) (listed (asked (drop (h .at) input)))) (cond t (stops malformed h) (frameLine (lineAt input (h .at)) (behind input (h .at)) h)))
       (ltb mostInput (length input))
-      (λ _. stop-puts 16)
+      (λ _. stop-puts malformed)
       (λ _.
       by-leb (λ _. Puts input (listed (asked (drop (h .at) input))) (frameLine (lineAt input (h .at)) (behind input (h .at)) h)) (length input) (h .at)
-      (λ k. rw (ended k, line-end input (h .at) k) (stop-puts 16))
+      (λ k. rw (ended k, line-end input (h .at) k) (stop-puts malformed))
       (λ k. rw (asked-cons input (h .at) k) (frame-puts (behind input (h .at)) (lineAt input (h .at)))))
 
   guests-put : Puts input (restIn Guests input h) (stepIn Guests input h)

@@ -16,7 +16,7 @@ use Rattle.rules.specs.Lines.{linesOf}
 use Rattle.rules.specs.Walks.{portionPlace}
 use Rattle.text.specs.declared.Line.{Line}
 use Rattle.text.specs.declared.Line.the-variants.{Frame, Guest, Arrive, Done, Advance, Malformed}
-use Rattle.text.specs.Script.{lineOf}
+use Rattle.text.specs.Script.{malformed, lineOf}
 use Rattle.text.specs.Lines.{portionBytes, refusalBytes, endBytes}
 
 -- ---- the lines of the input
@@ -62,9 +62,9 @@ commands s [] = endBytes (s .now)
 commands s (Arrive i ∷ ls) = printed (arrives i) s ++ commands (stateAfter (arrives i) s) ls
 commands s (Done i ∷ ls) = printed (finishes i) s ++ commands (stateAfter (finishes i) s) ls
 commands s (Advance k ∷ ls) = printed (advances k) s ++ commands (stateAfter (advances k) s) ls
-commands s (Frame h ∷ ls) = refusalBytes 16
-commands s (Guest q t ∷ ls) = refusalBytes 16
-commands s (Malformed ∷ ls) = refusalBytes 16
+commands s (Frame h ∷ ls) = refusalBytes malformed
+commands s (Guest q t ∷ ls) = refusalBytes malformed
+commands s (Malformed ∷ ls) = refusalBytes malformed
 
 -- ---- "`F h` is the first line, `G q t` lines follow"
 
@@ -105,13 +105,13 @@ guests table (Malformed ∷ ls) = checked table (Malformed ∷ ls)
 -- "a missing `F` line (so also empty input)" is 16
 unfoldable pub listed : List Line → List ℕ
 unfolding guests
-listed [] = refusalBytes 16
+listed [] = refusalBytes malformed
 listed (Frame h ∷ ls) = guests (framed h) ls
-listed (Guest q t ∷ ls) = refusalBytes 16
-listed (Arrive i ∷ ls) = refusalBytes 16
-listed (Done i ∷ ls) = refusalBytes 16
-listed (Advance k ∷ ls) = refusalBytes 16
-listed (Malformed ∷ ls) = refusalBytes 16
+listed (Guest q t ∷ ls) = refusalBytes malformed
+listed (Arrive i ∷ ls) = refusalBytes malformed
+listed (Done i ∷ ls) = refusalBytes malformed
+listed (Advance k ∷ ls) = refusalBytes malformed
+listed (Malformed ∷ ls) = refusalBytes malformed
 
 -- ---- the whole
 
@@ -122,4 +122,4 @@ mostInput = 65536
 -- "For too much input nothing else is printed"
 unfoldable pub listingOf : List ℕ → List ℕ
 unfolding asked listed
-listingOf input = cond (ltb mostInput (length input)) (refusalBytes 16) (listed (asked input))
+listingOf input = cond (ltb mostInput (length input)) (refusalBytes malformed) (listed (asked input))

@@ -16,7 +16,7 @@ use Rattle.rules.specs.Calls.{Call, arrives, finishes, advances, numberGiven, s
 use Rattle.rules.specs.Walks.{portionPlace, walkLines, walkState, walkLeft}
 use Rattle.text.specs.declared.Line.{Line}
 use Rattle.text.specs.declared.Line.the-variants.{Frame, Guest, Arrive, Done, Advance, Malformed}
-use Rattle.text.specs.Script.{lineOf}
+use Rattle.text.specs.Script.{malformed, lineOf}
 use Rattle.text.specs.Lines.{refusalBytes, endBytes, lineRoom, hasRoom}
 use Rattle.listing.specs.declared.Stage.{Stage}
 use Rattle.listing.specs.declared.Stage.the-variants.{Frames, Guests, Commands, Over}
@@ -68,11 +68,11 @@ withTable at table state = record { at = at; stage = Guests; table = table; stat
 -- the `F` line
 abbrev pub frameLine : Line → ℕ → Held → Step
 frameLine (Frame f) end h = step [] (withTable end (framed f) (h .state))
-frameLine (Guest q t) end h = stops 16 h
-frameLine (Arrive i) end h = stops 16 h
-frameLine (Done i) end h = stops 16 h
-frameLine (Advance k) end h = stops 16 h
-frameLine Malformed end h = stops 16 h
+frameLine (Guest q t) end h = stops malformed h
+frameLine (Arrive i) end h = stops malformed h
+frameLine (Done i) end h = stops malformed h
+frameLine (Advance k) end h = stops malformed h
+frameLine Malformed end h = stops malformed h
 
 -- commands come next: the place of the next one, the table, the state, and the ticks that are left
 abbrev pub goingOn : ℕ → Table → State → ℕ → Held
@@ -107,9 +107,9 @@ abbrev pub commandLine : Line → ℕ → Held → Step
 commandLine (Arrive i) end h = calls (arrives i) end h
 commandLine (Done i) end h = calls (finishes i) end h
 commandLine (Advance k) end h = walks k end h
-commandLine (Frame f) end h = stops 16 h
-commandLine (Guest q t) end h = stops 16 h
-commandLine Malformed end h = stops 16 h
+commandLine (Frame f) end h = stops malformed h
+commandLine (Guest q t) end h = stops malformed h
+commandLine Malformed end h = stops malformed h
 
 -- "The last line is `end` and the tick."
 abbrev pub ends : Held → Step
@@ -123,7 +123,7 @@ commandStep input h =
 
 -- a step in each stage
 abbrev pub stepIn : Stage → List ℕ → Held → Step
-stepIn Frames input h = cond (ltb mostInput (length input)) (stops 16 h) (frameLine (lineAt input (h .at)) (behind input (h .at)) h)
+stepIn Frames input h = cond (ltb mostInput (length input)) (stops malformed h) (frameLine (lineAt input (h .at)) (behind input (h .at)) h)
 stepIn Guests input h = guestLine (lineAt input (h .at)) (behind input (h .at)) h
 stepIn Commands input h = commandStep input h
 stepIn Over input h = step [] h

@@ -17,6 +17,7 @@ use Rattle.rules.specs.Table.{tableRows}
 use Rattle.rules.specs.Calls.{Arrived, Finished, stateAfter}
 use Rattle.text.specs.declared.Line.{Line}
 use Rattle.text.specs.declared.Line.the-variants.{Frame, Guest, Arrive, Done, Advance, Malformed}
+use Rattle.text.specs.Script.{malformed}
 use Rattle.text.proofs.Line as declared-line
 use Rattle.text.specs.Lines.{hasRoom}
 use Rattle.listing.specs.declared.Stage.{Stage}
@@ -30,7 +31,7 @@ use Rattle.stepping.specs.Parts.{Did, called}
 -- ---- another line
 
 module _ (end : ℕ) (h : Held) where
-  pub frame-other : (l : Line) → OneOf (1 ∷ 2 ∷ 3 ∷ 4 ∷ 5 ∷ []) (tagOf declared-line.the-type l) → frameLine l end h ≡ stops 16 h
+  pub frame-other : (l : Line) → OneOf (1 ∷ 2 ∷ 3 ∷ 4 ∷ 5 ∷ []) (tagOf declared-line.the-type l) → frameLine l end h ≡ stops malformed h
   frame-other (Frame f) k = absurd (miss (1 ∷ 2 ∷ 3 ∷ 4 ∷ 5 ∷ []) 0 tt k)
   frame-other (Guest q t) k = refl
   frame-other (Arrive i) k = refl
@@ -46,7 +47,7 @@ module _ (end : ℕ) (h : Held) where
   guest-other (Advance n) k = refl
   guest-other Malformed k = refl
 
-  pub command-other : (l : Line) → OneOf (0 ∷ 1 ∷ 5 ∷ []) (tagOf declared-line.the-type l) → commandLine l end h ≡ stops 16 h
+  pub command-other : (l : Line) → OneOf (0 ∷ 1 ∷ 5 ∷ []) (tagOf declared-line.the-type l) → commandLine l end h ≡ stops malformed h
   command-other (Frame f) k = refl
   command-other (Guest q t) k = refl
   command-other (Arrive i) k = absurd (miss (0 ∷ 1 ∷ 5 ∷ []) 2 tt k)
@@ -78,7 +79,7 @@ module _ (end : ℕ) (h : Held) {l : Line} where
 -- ---- the line that comes next
 
 module _ (input : List ℕ) (h : Held) where
-  pub frames-long : mostInput < length input → stepIn Frames input h ≡ stops 16 h
+  pub frames-long : mostInput < length input → stepIn Frames input h ≡ stops malformed h
   frames-long k = rw (lt-ltb mostInput (length input) k) refl
 
   pub commands-left : 0 < h .left → commandStep input h ≡ walks (h .left) (h .at) h

@@ -32,7 +32,7 @@ use Rattle.promises.proofs.Outcomes.{refusal-counts}
 use Rattle.text.specs.Lines.{portionBytes, refusalBytes, lineRoom, hasRoom, LinePut}
 use Rattle.listing.specs.declared.Held.{Held}
 use Rattle.listing.specs.Listing.{refusalIn, portionsBytes, withGuest}
-use Rattle.listing.specs.Stepping.{Step, step, stops, goingOn, checks, walks}
+use Rattle.listing.specs.Stepping.{Step, step, stops, over, goingOn, checks, walks}
 use Rattle.listing.proofs.Resting.{walk-nothing}
 use Rattle.stepping.specs.Parts.{Did, PortionsPut, called}
 
@@ -125,6 +125,9 @@ module _ (t : Table) where
 
 -- ---- a refusal's number
 
+pub stop-told : {a : Answer} {number : ℕ} → NumberTold a number → (h : Held) {held : Held} → held ≡ over h → stops (numberOf a) h ≡ step (refusalBytes number) held
+stop-told t h e = rw (t .answer, e) refl
+
 in-some : (n : ℕ) → 0 < n → refusalIn n ≡ refusalBytes n
 in-some zero h = absurd (omega arith)
 in-some (suc n) h = refl
@@ -136,10 +139,8 @@ module _ {a : Answer} {r : Refusal} (e : a ≡ Refused r) where
   pub refused-in : {number : ℕ} → NumberTold a number → refusalIn (numberOf a) ≡ refusalBytes number
   refused-in t = in-some (numberOf a) refused-some ∙ ap refusalBytes (sym (t .answer))
 
-  pub check-refused : (h : Held) {number : ℕ} → NumberTold a number → numberOf a ≡ first (tableRows (h .table)) → checks (first (tableRows (h .table))) h ≡ stops number h
-  check-refused h {number} t f =
-      let same : first (tableRows (h .table)) ≡ number = sym f ∙ sym (t .answer) in
-      ap (λ (n : ℕ). checks n h) same ∙ checks-some number (omega (arith, refused-some, t .answer))
+  pub check-refused : (h : Held) → numberOf a ≡ first (tableRows (h .table)) → checks (first (tableRows (h .table))) h ≡ stops (numberOf a) h
+  check-refused h f = ap (λ (n : ℕ). checks n h) (sym f) ∙ checks-some (numberOf a) refused-some
     where
       checks-some : (n : ℕ) → 0 < n → checks n h ≡ stops n h
       checks-some zero k = absurd (omega arith)

@@ -5,10 +5,9 @@ ghost use lib.ListN.{length};
 ghost use Rattle.listing.specs.Stepping.{stepRoom, goingOn, walks, ends, commandLine, commandStep};
 ghost use Rattle.stepping.specs.Parts.{Did, called};
 use crate::input::next_line;
-use crate::put::MALFORMED;
+use crate::put::malformed;
 use crate::put::over;
 use crate::put::put_portions;
-use crate::put::stopped;
 use listing::Held;
 use listing::Stage;
 use listing::Stepped;
@@ -82,7 +81,7 @@ fn command_line(line: Line, end: usize, h: Held, buffer: &mut [u8], filled: usiz
             called(outcome, end, h, buffer, filled)
         }
         Line::Advance(k) => walked(k, end, h, buffer, filled),
-        _ => stopped(MALFORMED, h, buffer, filled),
+        _ => malformed(h, buffer, filled),
     }
 }
 

@@ -1,18 +1,19 @@
-// What a step puts out: the number that stops the program, and the portions of a walk.
+// What a step puts out: the refusal that stops the program, and the portions of a walk.
 ghost use mathlib.Core.Path.{_≡_};
 ghost use Prim.Native.Nat.{_+_, _≤_};
 ghost use lib.ListN.{length, take};
 ghost use Rattle.rules.specs.Limits.{portionPlaces};
+ghost use Rattle.rules.specs.Refusals.{numberOf};
+ghost use Rattle.text.specs.Script.{malformed};
 ghost use Rattle.listing.specs.Stepping.{stepRoom, over, stops};
 ghost use Rattle.stepping.specs.Parts.{Did, PortionsPut};
 use listing::Held;
 use listing::Stage;
 use listing::Stepped;
+use rules::Answer;
 use rules::PORTION_PLACES;
 use rules::Portion;
-
-// "a line of program input is malformed", or out of order, or there is too much input.
-pub(crate) const MALFORMED: u64 = 16;
+use rules::Refusal;
 
 // Nothing comes any more.
 pub(crate) fn over(h: Held) -> Held
@@ -29,14 +30,24 @@ pub(crate) fn over(h: Held) -> Held
     }
 }
 
-// A number that stops the program.
-pub(crate) fn stopped(number: u64, h: Held, buffer: &mut [u8], filled: usize) -> Stepped
+// A refusal that stops the program.
+pub(crate) fn stopped(answer: Answer, h: Held, buffer: &mut [u8], filled: usize) -> Stepped
     requires { ⌜ filled + stepRoom ≤ length (now buffer) ⌝ }
-    ensures { λ r. ⌜ Did (stops number h) (now (buffer .entry)) filled (now (buffer .exit)) r ⌝ }
+    ensures { λ r. ⌜ Did (stops (numberOf answer) h) (now (buffer .entry)) filled (now (buffer .exit)) r ⌝ }
 {
     let held = over(h);
-    let filled = lines::put_refusal(number, buffer, filled);
+    let number = numbers::number_of(answer);
+    let filled = lines::put_refusal(number as u64, buffer, filled);
     Stepped { held, filled }
+}
+
+// "a line of program input is malformed", or out of order, or there is too much input.
+pub(crate) fn malformed(h: Held, buffer: &mut [u8], filled: usize) -> Stepped
+    requires { ⌜ filled + stepRoom ≤ length (now buffer) ⌝ }
+    ensures { λ r. ⌜ Did (stops malformed h) (now (buffer .entry)) filled (now (buffer .exit)) r ⌝ }
+{
+    let answer = Answer::Refused(Refusal::Malformed);
+    stopped(answer, h, buffer, filled)
 }
 
 pub(crate) fn put_portions(

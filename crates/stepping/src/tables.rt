@@ -10,7 +10,7 @@ ghost use Rattle.listing.specs.Stepping.{stepRoom, withTable, checks, stepIn};
 ghost use Rattle.stepping.specs.Parts.{Did};
 use crate::commands::going_on;
 use crate::input::next_line;
-use crate::put::MALFORMED;
+use crate::put::malformed;
 use crate::put::stopped;
 use listing::Held;
 use listing::MOST_INPUT;
@@ -76,7 +76,7 @@ pub(crate) fn frame_step(input: &[u8], h: Held, buffer: &mut [u8], filled: usize
     ensures { λ r. ⌜ Did (stepIn Frames (now (input .entry)) h) (now (buffer .entry)) filled (now (buffer .exit)) r ⌝ }
 {
     if MOST_INPUT < input.len() {
-        return stopped(MALFORMED, h, buffer, filled);
+        return malformed(h, buffer, filled);
     }
     let state = h.state;
     let next = next_line(input, h.at);
@@ -87,7 +87,7 @@ pub(crate) fn frame_step(input: &[u8], h: Held, buffer: &mut [u8], filled: usize
             let held = with_table(next.end, table, state);
             Stepped { held, filled }
         }
-        _ => stopped(MALFORMED, h, buffer, filled),
+        _ => malformed(h, buffer, filled),
     }
 }
 
@@ -100,8 +100,7 @@ fn checked(h: Held, buffer: &mut [u8], filled: usize) -> Stepped
     let outcome = engine::fresh(t);
     let answer = outcome.answer;
     let Answer::Went = answer else {
-        let number = numbers::number_of(answer);
-        return stopped(number as u64, h, buffer, filled);
+        return stopped(answer, h, buffer, filled);
     };
     let held = going_on(h.at, t, outcome.state, 0);
     Stepped { held, filled }

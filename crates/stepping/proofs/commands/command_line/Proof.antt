@@ -28,8 +28,8 @@ enum-known-line-3 c = search needs
 walked-requires : tie.Need-walked-requires
 walked-requires c κs = search needs
 
-stopped-requires : tie.Need-stopped-requires
-stopped-requires c κs = search needs
+malformed-requires : tie.Need-malformed-requires
+malformed-requires c κs = search needs
 
 same-length : tie.Need-same-length
 same-length c = did-long (c .before .before .called .ensures)
@@ -64,14 +64,14 @@ returns-3 c =
     did-as (advance-line (a .end) (a .h) (line .line3 .given .1)) (walked .walked .ensures)
 
 same-length-4 : tie.Need-same-length-4
-same-length-4 c = did-long (c .before .before .stopped .ensures)
+same-length-4 c = did-long (c .before .before .malformed .ensures)
 
 returns-4 : tie.Need-returns-4
 returns-4 c =
-    let stopped = c .before .before in
-    let other = stopped .before .before in
+    let malformed = c .before .before in
+    let other = malformed .before .before in
     let a = other .before .before .before .args in
-    did-as (command-other (a .end) (a .h) (a .line) (other .match .keys4)) (stopped .stopped .ensures)
+    did-as (command-other (a .end) (a .h) (a .line) (other .match .keys4)) (malformed .malformed .ensures)
 
 pub command-line-spec : {M : Type 1} → statement M
 command-line-spec =
@@ -85,7 +85,7 @@ command-line-spec =
     called-requires-2
     enum-known-line-3
     walked-requires
-    stopped-requires
+    malformed-requires
     same-length
     returns
     same-length-2

@@ -17,12 +17,6 @@ enum-told c = search needs
 enum-told-2 : tie.Need-enum-told-2
 enum-told-2 c = search needs
 
-number-of-requires : tie.Need-number-of-requires
-number-of-requires c κs = search needs
-
-cast-stopped : tie.Need-cast-stopped
-cast-stopped c = search needs
-
 stopped-requires : tie.Need-stopped-requires
 stopped-requires c κs = search needs
 
@@ -32,11 +26,10 @@ same-length c = did-long (c .before .before .stopped .ensures)
 returns : tie.Need-returns
 returns c =
     let stopped = c .before .before in
-    let number = stopped .before .before in
-    let refused = number .before in
+    let refused = stopped .before .before in
     let fresh = refused .before .before in
     let a = fresh .before .before .before .args in
-    did-as (check-refused (refused .enum-told2 .given .1) (a .h) (number .number-of .ensures) (fresh .fresh .ensures .answer)) (stopped .stopped .ensures)
+    did-as (check-refused (refused .enum-told2 .given .1) (a .h) (fresh .fresh .ensures .answer)) (stopped .stopped .ensures)
 
 going-on-requires : tie.Need-going-on-requires
 going-on-requires c κs = search needs
@@ -56,8 +49,6 @@ checked-spec =
     fresh-requires
     enum-told
     enum-told-2
-    number-of-requires
-    cast-stopped
     stopped-requires
     same-length
     returns

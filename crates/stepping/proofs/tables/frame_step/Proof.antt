@@ -8,18 +8,18 @@ use borrow.Author.Needs.{needs}
 use Rattle.stepping.proofs.tables.frame_step.Statement.{statement}
 use Rattle.stepping.proofs.tables.frame_step.Tie as tie
 
-stopped-requires : tie.Need-stopped-requires
-stopped-requires c κs = search needs
+malformed-requires : tie.Need-malformed-requires
+malformed-requires c κs = search needs
 
 same-length : tie.Need-same-length
-same-length c = did-long (c .before .before .stopped .ensures)
+same-length c = did-long (c .before .before .malformed .ensures)
 
 returns : tie.Need-returns
 returns c =
-    let stopped = c .before .before in
-    let long = stopped .before .before in
+    let malformed = c .before .before in
+    let long = malformed .before .before in
     let a = long .before .before .before .args in
-    did-as (frames-long (now (a .input)) (a .h) (long .if1 .taken)) (stopped .stopped .ensures)
+    did-as (frames-long (now (a .input)) (a .h) (long .if1 .taken)) (malformed .malformed .ensures)
 
 next-line-requires : tie.Need-next-line-requires
 next-line-requires c κs = search needs
@@ -33,8 +33,8 @@ framed-requires c κs = search needs
 with-table-requires : tie.Need-with-table-requires
 with-table-requires c κs = search needs
 
-stopped-requires-2 : tie.Need-stopped-requires-2
-stopped-requires-2 c κs = search needs
+malformed-requires-2 : tie.Need-malformed-requires-2
+malformed-requires-2 c κs = search needs
 
 returns-2 : tie.Need-returns-2
 returns-2 c =
@@ -47,29 +47,29 @@ returns-2 c =
     (frames-line (now (a .input)) (a .h) (next .next-line .ensures) (omega arith) ∙ framed-step (a .h) (line .line .given .1) (framed .framed .ensures) (c .with-table .ensures))
 
 same-length-2 : tie.Need-same-length-2
-same-length-2 c = did-long (c .before .before .stopped2 .ensures)
+same-length-2 c = did-long (c .before .before .malformed2 .ensures)
 
 returns-3 : tie.Need-returns-3
 returns-3 c =
-    let stopped = c .before .before in
-    let other = stopped .before .before in
+    let malformed = c .before .before in
+    let other = malformed .before .before in
     let next = other .before in
     let short = next .before .before in
     let a = short .before .before .before .args in
-    did-as (frames-line (now (a .input)) (a .h) (next .next-line .ensures) (omega arith) ∙ frame-other (next .next-line .result .end) (a .h) (next .next-line .result .line) (other .match .keys2)) (stopped .stopped2 .ensures)
+    did-as (frames-line (now (a .input)) (a .h) (next .next-line .ensures) (omega arith) ∙ frame-other (next .next-line .result .end) (a .h) (next .next-line .result .line) (other .match .keys2)) (malformed .malformed2 .ensures)
 
 pub frame-step-spec : {M : Type 1} → statement M
 frame-step-spec =
     tie.close
     (tie.spec
-    stopped-requires
+    malformed-requires
     same-length
     returns
     next-line-requires
     enum-known-line
     framed-requires
     with-table-requires
-    stopped-requires-2
+    malformed-requires-2
     returns-2
     same-length-2
     returns-3)
