@@ -15,22 +15,22 @@ use Rattle.text.proofs.Decimal.{count-small, count-some, count-tenth}
 pub record Counted (n count rest : ℕ) : Type 0 where
   pub of : ℕ
   pub before : rest ≡ of / 10
-  pub so : count + digitCount of of ≡ suc (digitCount n n)
+  pub so : count + digitCount of ≡ suc (digitCount n)
 
 pub counted-start : (n : ℕ) → Counted n 1 (n / 10)
 counted-start n = record { of = n; before = refl; so = omega arith }
 
 module _ {n count rest : ℕ} (c : Counted n count rest) where
-  pub counted-few : count ≤ digitCount n n
-  counted-few = omega (arith, c .so, count-some (c .of) (c .of))
+  pub counted-few : count ≤ digitCount n
+  counted-few = omega (arith, c .so, count-some (c .of))
 
   pub counted-more : 0 < rest → Counted n (count + 1) (rest / 10)
   counted-more h =
-      let tenth : digitCount (c .of) (c .of) ≡ suc (digitCount rest rest) = rw (c .before) (count-tenth (c .of) (omega (arith, c .before))) in
+      let tenth : digitCount (c .of) ≡ suc (digitCount rest) = rw (c .before) (count-tenth (c .of) (omega (arith, c .before))) in
       record { of = rest; before = refl; so = omega (arith, c .so, tenth) }
 
-  pub counted-end : rest ≡ 0 → count ≡ digitCount n n
-  counted-end e = omega (arith, c .so, count-small (c .of) (c .of) (omega (arith, c .before)))
+  pub counted-end : rest ≡ 0 → count ≡ digitCount n
+  counted-end e = omega (arith, c .so, count-small (c .of) (omega (arith, c .before)))
 
 -- ---- storing them
 
@@ -41,10 +41,10 @@ pub record Stored (n : ℕ) (before : List ℕ) (at i rest : ℕ) (after : List 
   pub whole : lastDigits (i - at) rest ++ behind ≡ decimal n
   pub so : after ≡ sets before i behind
 
-pub stored-start : (n : ℕ) (before : List ℕ) (at end : ℕ) → end ≡ at + digitCount n n → Stored n before at end n before
+pub stored-start : (n : ℕ) (before : List ℕ) (at end : ℕ) → end ≡ at + digitCount n → Stored n before at end n before
 unfolding decimal
 stored-start n before at end e =
-    let count : end - at ≡ digitCount n n = omega arith in
+    let count : end - at ≡ digitCount n = omega arith in
     record { low = omega arith; behind = []; whole = rw count (append-nil (decimal n)); so = refl }
 
 module _ {n : ℕ} {before : List ℕ} {at i rest : ℕ} {after : List ℕ} (s : Stored n before at i rest after) where

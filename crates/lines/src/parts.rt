@@ -8,7 +8,7 @@ ghost use Rattle.lines.specs.Parts.{PartPut};
 use rules::Used;
 
 fn digit_count(n: u64) -> usize
-    ensures { λ r. ⌜ (r ≡ digitCount n n) × (r ≤ 20) ⌝ }
+    ensures { λ r. ⌜ (r ≡ digitCount n) × (r ≤ 20) ⌝ }
 {
     let mut count: usize = 1;
     let mut rest = n / 10;

@@ -1,53 +1,60 @@
 -- Numbers in decimal: how many digits, which ones, and what they mean.
-use mathlib.Core.Path.{_≡_, refl, sym, ap, _∙_}
-use mathlib.Core.Bool.{cond}
+use mathlib.Core.Path.{_≡_, refl, sym, ap}
 use mathlib.Core.List.{List, [], _∷_, _++_}
 use Prim.Native.Nat.{ℕ, zero, suc, _+_, _-_, _*_, _/_, _%_, _^_, _≤_, _<_}
 use native.Mathlib.Nat.{pow-suc}
 use native.Mathlib.Omega.{arith}
 use lib.ListN.{length, getD, length-append, List·getD-append}
-use borrow.Author.Tests.{lt-ltb, le-ltb}
-use Rattle.laws.proofs.Cases.{by-ltb}
 use Rattle.laws.specs.Digits.{valueIn}
-use Rattle.text.specs.Decimal.{lastDigits, digitCount, decimal, DecimalReads, NoLeadingZero}
+use Rattle.text.specs.Decimal.{lastDigits, digitsBefore, digitCount, decimal, DecimalReads, NoLeadingZero}
 
 -- ---- how many digits
 
-pub count-small : (most n : ℕ) → n < 10 → digitCount most n ≡ 1
-unfolding digitCount
-count-small zero n h = refl
-count-small (suc most) n h = rw (lt-ltb n 10 h) refl
+before-none : (most : ℕ) → digitsBefore most 0 ≡ 0
+unfolding digitsBefore
+before-none zero = refl
+before-none (suc most) = refl
 
-count-more : (most n : ℕ) → 10 ≤ n → digitCount (suc most) n ≡ suc (digitCount most (n / 10))
-unfolding digitCount
-count-more most n h = rw (le-ltb n 10 h) refl
+-- as many as the tenth counts are enough
+before-enough : (most other tenth : ℕ) → tenth ≤ most → tenth ≤ other → digitsBefore most tenth ≡ digitsBefore other tenth
+unfolding digitsBefore
+before-enough zero other zero h k = sym (before-none other)
+before-enough zero other (suc tenth) h k = absurd (omega arith)
+before-enough (suc most) zero zero h k = refl
+before-enough (suc most) zero (suc tenth) h k = absurd (omega arith)
+before-enough (suc most) (suc other) zero h k = refl
+before-enough (suc most) (suc other) (suc tenth) h k = ap suc (before-enough most other (suc tenth / 10) (omega arith) (omega arith))
 
-pub count-some : (most n : ℕ) → 1 ≤ digitCount most n
-unfolding digitCount
-count-some zero n = omega arith
-count-some (suc most) n = by-ltb (λ t. 1 ≤ cond t 1 (suc (digitCount most (n / 10)))) n 10 (λ _. omega arith) (λ _. omega arith)
+before-tenth : (n tenth : ℕ) → tenth ≡ n / 10 → 0 < tenth → digitsBefore n tenth ≡ suc (digitsBefore tenth (tenth / 10))
+unfolding digitsBefore
+before-tenth zero tenth e h = absurd (omega arith)
+before-tenth (suc n) zero e h = absurd (omega arith)
+before-tenth (suc n) (suc tenth) e h = ap suc (before-enough n (suc tenth) (suc tenth / 10) (omega arith) (omega arith))
 
--- as many tens as the number counts are enough
-count-enough : (most other n : ℕ) → n ≤ most → n ≤ other → digitCount most n ≡ digitCount other n
+pub count-some : (n : ℕ) → 1 ≤ digitCount n
 unfolding digitCount
-count-enough zero other n h k = sym (count-small other n (omega arith))
-count-enough (suc most) zero n h k = count-small (suc most) n (omega arith)
-count-enough (suc most) (suc other) n h k = by-ltb (λ t. cond t 1 (suc (digitCount most (n / 10))) ≡ cond t 1 (suc (digitCount other (n / 10)))) n 10 (λ _. refl) (λ _. ap suc (count-enough most other (n / 10) (omega arith) (omega arith)))
+count-some n = omega arith
+
+pub count-small : (n : ℕ) → n < 10 → digitCount n ≡ 1
+unfolding digitCount
+count-small n h = let none : n / 10 ≡ 0 = omega arith in rw none (ap suc (before-none n))
 
 -- a tenth of a number has one digit less
-pub count-tenth : (n : ℕ) → 10 ≤ n → digitCount n n ≡ suc (digitCount (n / 10) (n / 10))
-count-tenth zero h = absurd (omega arith)
-count-tenth (suc n) h = count-more n (suc n) h ∙ ap suc (count-enough n (suc n / 10) (suc n / 10) (omega arith) (omega arith))
+pub count-tenth : (n : ℕ) → 10 ≤ n → digitCount n ≡ suc (digitCount (n / 10))
+unfolding digitCount
+count-tenth n h = ap suc (before-tenth n (n / 10) refl (omega arith))
 
 -- a number below a power of ten has no more digits than the power
-few-digits : (k most n : ℕ) → n < 10 ^ suc k → digitCount most n ≤ suc k
-unfolding digitCount
-few-digits k zero n h = omega arith
-few-digits zero (suc most) n h = omega (arith, count-small (suc most) n (omega arith))
-few-digits (suc k) (suc most) n h = by-ltb (λ t. cond t 1 (suc (digitCount most (n / 10))) ≤ suc (suc k)) n 10 (λ _. omega arith) (λ _. omega (arith, few-digits k most (n / 10) (omega (arith, pow-suc 10 (suc k)))))
+few-before : (k most tenth : ℕ) → tenth < 10 ^ k → digitsBefore most tenth ≤ k
+unfolding digitsBefore
+few-before k zero tenth h = omega arith
+few-before k (suc most) zero h = omega arith
+few-before zero (suc most) (suc tenth) h = absurd (omega arith)
+few-before (suc k) (suc most) (suc tenth) h = omega (arith, few-before k most (suc tenth / 10) (omega (arith, pow-suc 10 k)))
 
-pub word-digits : (n : ℕ) → n < 2 ^ 64 → digitCount n n ≤ 20
-word-digits n h = few-digits 19 n n (omega arith)
+pub word-digits : (n : ℕ) → n < 2 ^ 64 → digitCount n ≤ 20
+unfolding digitCount
+word-digits n h = omega (arith, few-before 19 n (n / 10) (omega arith))
 
 -- ---- which digits
 
@@ -56,9 +63,9 @@ unfolding lastDigits
 digits-long zero n = refl
 digits-long (suc count) n = omega (arith, length-append (lastDigits count (n / 10)) ((48 + n % 10) ∷ []), digits-long count (n / 10))
 
-pub decimal-long : (n : ℕ) → length (decimal n) ≡ digitCount n n
+pub decimal-long : (n : ℕ) → length (decimal n) ≡ digitCount n
 unfolding decimal
-decimal-long n = digits-long (digitCount n n) n
+decimal-long n = digits-long (digitCount n) n
 
 -- ---- what they mean
 
@@ -75,27 +82,28 @@ digits-read (suc count) n h =
     omega (arith, value-more 0 (lastDigits count (n / 10)) (48 + n % 10), digits-read count (n / 10) (omega (arith, pow-suc 10 count)))
 
 -- so many digits are enough
-digits-enough : (most n : ℕ) → n ≤ most → n < 10 ^ digitCount most n
-unfolding digitCount
-digits-enough zero n h = omega arith
-digits-enough (suc most) n h =
-    by-ltb (λ t. n < 10 ^ cond t 1 (suc (digitCount most (n / 10)))) n 10 (λ small. omega arith)
-    (λ large. omega (arith, pow-suc 10 (digitCount most (n / 10)), digits-enough most (n / 10) (omega arith)))
+enough-before : (most tenth : ℕ) → tenth ≤ most → tenth < 10 ^ digitsBefore most tenth
+unfolding digitsBefore
+enough-before zero tenth h = omega arith
+enough-before (suc most) zero h = omega arith
+enough-before (suc most) (suc tenth) h =
+    let before = digitsBefore most (suc tenth / 10) in
+    omega (arith, pow-suc 10 before, enough-before most (suc tenth / 10) (omega arith))
 
 pub decimal-reads : DecimalReads
 unfolding decimal
-decimal-reads n = digits-read (digitCount n n) n (digits-enough n n (omega arith))
+decimal-reads n =
+    digits-read (digitCount n) n (omega (arith, pow-suc 10 (digitsBefore n (n / 10)), enough-before n (n / 10) (omega arith)))
 
-first-digit : (most n : ℕ) → 0 < n → n ≤ most → 48 < getD (lastDigits (digitCount most n) n) 0 0
-unfolding lastDigits digitCount
-first-digit zero n h k = absurd (omega arith)
-first-digit (suc most) n h k =
-    by-ltb (λ t. 48 < getD (lastDigits (cond t 1 (suc (digitCount most (n / 10)))) n) 0 0) n 10 (λ small. omega arith)
-    (λ large.
-    let count = digitCount most (n / 10) in
-    rw (List·getD-append (lastDigits count (n / 10)) ((48 + n % 10) ∷ []) 0 0 (omega (arith, digits-long count (n / 10), count-some most (n / 10))))
-    (first-digit most (n / 10) (omega arith) (omega arith)))
+first-digit : (most tenth n : ℕ) → tenth ≡ n / 10 → tenth ≤ most → 0 < n → 48 < getD (lastDigits (suc (digitsBefore most tenth)) n) 0 0
+unfolding lastDigits digitsBefore
+first-digit zero tenth n e h some = omega arith
+first-digit (suc most) zero n e h some = omega arith
+first-digit (suc most) (suc tenth) n e h some =
+    let count = suc (digitsBefore most (suc tenth / 10)) in
+    rw (List·getD-append (lastDigits count (n / 10)) ((48 + n % 10) ∷ []) 0 0 (omega (arith, digits-long count (n / 10))), ← e)
+    (first-digit most (suc tenth / 10) (suc tenth) refl (omega arith) (omega arith))
 
 pub no-leading-zero : NoLeadingZero
-unfolding decimal
-no-leading-zero n h e = omega (arith, first-digit n n h (omega arith))
+unfolding decimal digitCount
+no-leading-zero n h e = omega (arith, first-digit n (n / 10) n refl (omega arith) h)

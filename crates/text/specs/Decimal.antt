@@ -1,9 +1,7 @@
 -- A number in decimal: digits without leading zero, 0 as one digit.
 use mathlib.Core.Path.{_≡_}
-use mathlib.Core.Bool.{cond}
 use mathlib.Core.List.{List, [], _∷_, _++_}
 use Prim.Native.Nat.{ℕ, zero, suc, _+_, _/_, _%_, _<_}
-use lib.Dec.{ltb}
 use lib.ListN.{getD}
 use Rattle.laws.specs.Digits.{valueIn}
 
@@ -12,15 +10,20 @@ unfoldable pub lastDigits : ℕ → ℕ → List ℕ
 lastDigits zero n = []
 lastDigits (suc count) n = lastDigits count (n / 10) ++ ((48 + n % 10) ∷ [])
 
--- one digit below ten, and else one more than a tenth of it has; no number has more than `most` tens to go through
-unfoldable pub digitCount : ℕ → ℕ → ℕ
-digitCount zero n = 1
-digitCount (suc most) n = cond (ltb n 10) 1 (suc (digitCount most (n / 10)))
+-- how many digits stand in front of the last one: none where the tenth is 0, and else one more than in front of the tenth's last one; so
+-- many at most, of which there are enough, because a tenth is less than the number
+unfoldable pub digitsBefore : ℕ → ℕ → ℕ
+digitsBefore zero tenth = 0
+digitsBefore (suc most) zero = 0
+digitsBefore (suc most) (suc tenth) = suc (digitsBefore most (suc tenth / 10))
 
--- a tenth is less than the number, so that n itself bounds the steps
+unfoldable pub digitCount : ℕ → ℕ
+unfolding digitsBefore
+digitCount n = suc (digitsBefore n (n / 10))
+
 unfoldable pub decimal : ℕ → List ℕ
 unfolding lastDigits digitCount
-decimal n = lastDigits (digitCount n n) n
+decimal n = lastDigits (digitCount n) n
 
 -- ---- what it means
 

@@ -3,3 +3,4 @@ pub mod Numbers
 pub mod Script
 pub mod Decimal
 pub mod Lines
+pub mod Rows
