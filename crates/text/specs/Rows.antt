@@ -1,13 +1,15 @@
 -- Lines of input and of output, row by row: the bytes, and what 01 says of them. Every number here is written out.
 use mathlib.Core.Path.{_≡_}
 use mathlib.Core.Bool.{true, false}
-use mathlib.Core.List.{List, [], _∷_}
+use mathlib.Core.List.{List, [], _∷_, _++_}
 use Prim.Native.Nat.{ℕ}
 use lib.ListN.{replicate}
 use Rattle.rules.specs.declared.Used.{Used}
 use Rattle.rules.specs.declared.Used.the-variants.{Own, SpareOf, Burned, Idle}
 use Rattle.rules.specs.declared.Portion.{Portion}
-use Rattle.text.specs.Script.{Said, says, refuses, saidBy, lineOf}
+use Rattle.text.specs.declared.Line.the-variants.{Frame}
+use Rattle.text.specs.Numbers.{noNumber, got, numberAt}
+use Rattle.text.specs.Script.{Said, says, refuses, saidBy, lineOf, LineTold}
 use Rattle.text.specs.Decimal.{decimal}
 use Rattle.text.specs.Lines.{portionBytes, refusalBytes, endBytes, RoomTold, LinePut}
 
@@ -16,6 +18,13 @@ use Rattle.text.specs.Lines.{portionBytes, refusalBytes, endBytes, RoomT
 -- what the line of these bytes says
 abbrev pub said : List ℕ → Said
 said bytes = saidBy (lineOf bytes)
+
+-- a number and what follows it
+pub record NumbersRead : Type 0 where
+  -- "each after one space"
+  pub atTheEnd : numberAt (32 ∷ 48 ∷ []) ≡ got 0 []
+  pub beforeAnother : numberAt (32 ∷ 51 ∷ 50 ∷ 32 ∷ 52 ∷ 10 ∷ []) ≡ got 32 (32 ∷ 52 ∷ 10 ∷ [])
+  pub nothing : numberAt [] ≡ noNumber
 
 -- lines that 01 allows, and what they say
 pub record LinesRead : Type 0 where
@@ -26,6 +35,7 @@ pub record LinesRead : Type 0 where
   pub arrive : said (65 ∷ 32 ∷ 49 ∷ 10 ∷ []) ≡ says 65 (1 ∷ [])
   pub done : said (68 ∷ 32 ∷ 50 ∷ 10 ∷ []) ≡ says 68 (2 ∷ [])
   pub advance : said (82 ∷ 32 ∷ 53 ∷ 10 ∷ []) ≡ says 82 (5 ∷ [])
+  pub told : LineTold (70 ∷ 32 ∷ 56 ∷ 10 ∷ []) (Frame 8)
   -- "1 to 13 digits and no leading zero unless it is 0": `R 0`, `R 9`, `R 90`, `G 100 1000000`, `R 1234567890123`, `F 9999999999999`,
   -- `G 9999999999999 1000000000000`
   pub zero : said (82 ∷ 32 ∷ 48 ∷ 10 ∷ []) ≡ says 82 (0 ∷ [])
@@ -151,8 +161,8 @@ pub record LinesPut : Type 0 where
   pub noRoom : RoomTold 84 0 85 false
   pub roomBehind : RoomTold 88 3 85 true
   pub noRoomBehind : RoomTold 87 3 85 false
-  -- `end 0` behind two bytes: what stands in front of it and behind it stays
-  pub between : LinePut (endBytes 0) (replicate 87 7) 2 (7 ∷ 7 ∷ 101 ∷ 110 ∷ 100 ∷ 32 ∷ 48 ∷ 10 ∷ replicate 79 7) 8
+  -- `end 0` behind a hundred bytes: what stands in front of it and behind it stays
+  pub between : LinePut (endBytes 0) (replicate 185 7) 100 (replicate 100 7 ++ (101 ∷ 110 ∷ 100 ∷ 32 ∷ 48 ∷ 10 ∷ []) ++ replicate 79 7) 106
   -- the longest line takes the whole buffer
   pub whole : LinePut (portionBytes (portion 18446744073709551615 18446744073709551615 (SpareOf 18446744073709551615 18446744073709551615))) (replicate 85 7) 0 (49 ∷ 56 ∷ 52 ∷ 52 ∷ 54 ∷ 55 ∷ 52 ∷ 52 ∷ 48 ∷ 55 ∷ 51 ∷ 55 ∷ 48 ∷ 57 ∷ 53 ∷ 53 ∷ 49 ∷ 54 ∷ 49 ∷ 53 ∷ 32 ∷ 49 ∷ 56 ∷ 52 ∷ 52 ∷ 54 ∷ 55 ∷ 52 ∷ 52 ∷ 48 ∷ 55 ∷ 51 ∷ 55 ∷ 48 ∷ 57 ∷ 53 ∷ 53 ∷ 49 ∷ 54 ∷ 49 ∷ 53 ∷ 32 ∷ 49 ∷ 56 ∷ 52 ∷ 52 ∷ 54 ∷ 55 ∷ 52 ∷ 52 ∷ 48 ∷ 55 ∷ 51 ∷ 55 ∷ 48 ∷ 57 ∷ 53 ∷ 53 ∷ 49 ∷ 54 ∷ 49 ∷ 53 ∷ 32 ∷ 49 ∷ 56 ∷ 52 ∷ 52 ∷ 54 ∷ 55 ∷ 52 ∷ 52 ∷ 48 ∷ 55 ∷ 51 ∷ 55 ∷ 48 ∷ 57 ∷ 53 ∷ 53 ∷ 49 ∷ 54 ∷ 49 ∷ 53 ∷ 115 ∷ 10 ∷ []) 85
   -- in a buffer that is one byte shorter even a short line has no room

@@ -1,10 +1,20 @@
 -- The rows of a line of input and a line of output hold, by computing.
 use mathlib.Core.Path.{refl}
 use native.Mathlib.Omega.{arith}
+use Rattle.text.specs.Numbers.{numberAt}
 use Rattle.text.specs.Script.{lineOf}
 use Rattle.text.specs.Decimal.{decimal}
 use Rattle.text.specs.Lines.{portionBytes, refusalBytes, endBytes}
-use Rattle.text.specs.Rows.{LinesRead, LinesRefused, NumbersWritten, LinesWritten, LinesPut}
+use Rattle.text.specs.Rows.{NumbersRead, LinesRead, LinesRefused, NumbersWritten, LinesWritten, LinesPut}
+
+pub numbers-read : NumbersRead
+unfolding numberAt
+numbers-read =
+    record {
+      atTheEnd = refl;
+      beforeAnother = refl;
+      nothing = refl;
+    }
 
 pub lines-read : LinesRead
 unfolding lineOf
@@ -15,6 +25,7 @@ lines-read =
       arrive = refl;
       done = refl;
       advance = refl;
+      told = refl;
       zero = refl;
       nine = refl;
       ninety = refl;
