@@ -1,18 +1,22 @@
--- 01's own listing and the short inputs, by computing.
+-- 01's own listing, the short inputs and the steps, by computing.
 use mathlib.Core.Path.{refl}
+use native.Mathlib.Omega.{arith}
 use lib.ListN.{length}
 use borrow.Author.Tests.{lt-ltb, le-ltb}
 use Rattle.rules.specs.Table.{goodTable}
 use Rattle.rules.specs.Steps.{arrive, done, renewed, next, serve, tick, advance, ask}
-use Rattle.rules.specs.Places.{model, packed, freshState}
+use Rattle.rules.specs.Places.{model, packed, freshState, noState}
 use Rattle.rules.specs.Sound.{inRange, sound}
 use Rattle.rules.specs.Calls.{stateAfter}
 use Rattle.rules.specs.Lines.{lines, linesOf}
+use Rattle.rules.specs.Walks.{walkLines, walkState, walkLeft}
 use Rattle.text.specs.Script.{lineOf}
 use Rattle.text.specs.Lines.{portionBytes, refusalBytes, endBytes}
 use Rattle.text.specs.Decimal.{decimal}
 use Rattle.listing.specs.Listing.{linesIn, listingOf, asked, listed, guests, checked, commands, printed}
 use Rattle.listing.specs.Worked.{repeated, WorkedHolds, OrderHolds, StopsHold, GoesOnHold, PortionsHold, LinesSplit, InputBound}
+use Rattle.listing.specs.Stepping.{lineLength, lineAt, behind, stepOf, putOut, heldAfter}
+use Rattle.listing.specs.Rows.{LineComesNext, StepsHold, StepsStop, TablesHold, StepBound, StepsPut, StagesHold}
 
 pub worked-holds : WorkedHolds
 unfolding listingOf asked listed guests checked commands printed lineOf portionBytes refusalBytes endBytes decimal goodTable arrive done renewed next serve tick advance ask model packed freshState inRange sound stateAfter lines linesOf
@@ -107,4 +111,104 @@ input-bound =
     record {
       taken = λ input h. rw (le-ltb 65536 (length input) h) refl;
       refused = λ input h. rw (lt-ltb 65536 (length input) h) refl;
+    }
+
+-- ---- the steps
+
+pub tables-hold : TablesHold
+tables-hold =
+    record {
+      noGuestYet = refl;
+      firstGuest = refl;
+      secondGuest = refl;
+      seventeenth = refl;
+      eighteenth = refl;
+    }
+
+pub line-comes-next : LineComesNext
+unfolding lineLength lineAt behind lineOf
+line-comes-next =
+    record {
+      length = refl;
+      lengthOpen = refl;
+      lengthNothing = refl;
+      guest = refl;
+      last = refl;
+      end = refl;
+      behindGuest = refl;
+      behindEnd = refl;
+    }
+
+pub steps-hold : StepsHold
+unfolding noState stepOf lineAt behind heldAfter putOut walkLines walkState walkLeft lineOf portionBytes refusalBytes endBytes decimal goodTable arrive done renewed next serve tick advance ask model packed freshState inRange sound stateAfter lines
+steps-hold =
+    record {
+      frame = refl;
+      guest = refl;
+      check = refl;
+      arrive = refl;
+      advance = refl;
+      rest = refl;
+      done = refl;
+      end = refl;
+      over = refl;
+      putOut = refl;
+    }
+
+pub steps-stop : StepsStop
+unfolding noState stepOf lineAt behind heldAfter putOut walkLines walkState walkLeft lineOf portionBytes refusalBytes endBytes decimal goodTable arrive done renewed next serve tick advance ask model packed freshState inRange sound stateAfter lines
+steps-stop =
+    record {
+      noInput = refl;
+      guestFirst = refl;
+      arriveFirst = refl;
+      doneFirst = refl;
+      advanceFirst = refl;
+      malformedFirst = refl;
+      checkFrame = refl;
+      checkDone = refl;
+      checkAdvance = refl;
+      checkMalformed = refl;
+      checkEnd = refl;
+      checkRefused = refl;
+      frameLater = refl;
+      guestLater = refl;
+      malformedLater = refl;
+      arriveRefused = refl;
+      doneRefused = refl;
+      advanceRefused = refl;
+    }
+
+pub steps-put : StepsPut
+unfolding noState stepOf lineAt behind lineOf refusalBytes decimal
+steps-put =
+    record {
+      room = refl;
+      whole = record { held = refl; holds = refl; content = refl; short = omega arith };
+      behind = record { held = refl; holds = refl; content = refl; short = omega arith };
+      kept = record { held = refl; holds = refl; content = refl; short = omega arith };
+      keptBehind = record { held = refl; holds = refl; content = refl; short = omega arith };
+    }
+
+pub stages-hold : StagesHold
+unfolding noState stepOf lineAt behind heldAfter putOut walkLines walkState walkLeft lineOf portionBytes refusalBytes endBytes decimal goodTable arrive done renewed next serve tick advance ask model packed freshState inRange sound stateAfter lines
+stages-hold =
+    record {
+      first = record { held = refl };
+      frames = record { answer = refl };
+      guests = record { answer = refl };
+      commands = record { answer = refl };
+      over = record { answer = refl };
+      toGoFrames = refl;
+      toGoGuests = refl;
+      toGoCommands = refl;
+      toGoOver = refl;
+    }
+
+pub step-bound : StepBound
+unfolding refusalBytes decimal
+step-bound =
+    record {
+      taken = λ input h k. rw (le-ltb 65536 (length input) k) refl;
+      refused = λ input h k. rw (lt-ltb 65536 (length input) k) refl;
     }

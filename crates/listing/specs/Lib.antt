@@ -1,4 +1,5 @@
--- The whole output of the program, and the steps that put it out.
+-- The whole output of the program, the steps that put it out, and the rows of both.
 pub mod Listing
 pub mod Stepping
 pub mod Worked
+pub mod Rows
