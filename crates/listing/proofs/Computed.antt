@@ -82,7 +82,6 @@ goes-on-hold =
       idle = refl;
       idleAgain = refl;
       jobsFull = refl;
-      noRoom = refl;
       pastTheEnd = refl;
       pastTheEndLater = refl;
       largestAdvance = refl;

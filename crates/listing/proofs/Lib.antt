@@ -1,7 +1,3 @@
--- The rows of the listing, and laws of the input's lines and of the steps.
+-- The rows of the listing and of the steps, and that the contracts allow one outcome.
 pub mod Computed
-pub mod Inputs
-pub mod Falling
-pub mod Resting
-pub mod Steps
 pub mod Told

@@ -131,12 +131,12 @@ pub record StepBound : Type 0 where
 -- a step in a lent buffer: what is held next, how many bytes count, and the whole content
 pub record StepsPut : Type 0 where
   pub room : stepRoom ≡ 5440
-  -- with just room, at the front and behind a hundred bytes
+  -- with just room, at the front and behind 6,000 bytes
   pub whole : Stepping [] atFirst (replicate 5440 7) 0 (33 ∷ 32 ∷ 49 ∷ 54 ∷ 10 ∷ replicate 5435 7) (record { held = stopped; filled = 5 })
-  pub behind : Stepping [] atFirst (replicate 5540 7) 100 (replicate 100 7 ++ (33 ∷ 32 ∷ 49 ∷ 54 ∷ 10 ∷ []) ++ replicate 5435 7) (record { held = stopped; filled = 105 })
+  pub behind : Stepping [] atFirst (replicate 11440 7) 6000 (replicate 6000 7 ++ (33 ∷ 32 ∷ 49 ∷ 54 ∷ 10 ∷ []) ++ replicate 5435 7) (record { held = stopped; filled = 6005 })
   -- with one byte less nothing happens
   pub kept : Stepping [] atFirst (replicate 5439 7) 0 (replicate 5439 7) (record { held = atFirst; filled = 0 })
-  pub keptBehind : Stepping [] atFirst (replicate 5539 7) 100 (replicate 5539 7) (record { held = atFirst; filled = 100 })
+  pub keptBehind : Stepping [] atFirst (replicate 11439 7) 6000 (replicate 11439 7) (record { held = atFirst; filled = 6000 })
 
 -- the stages: what is held at first, whether more is to come, and what is to go
 pub record StagesHold : Type 0 where

@@ -50,10 +50,10 @@ pub record OrderHolds : Type 0 where
   -- "a missing `F` line (so also empty input)", and any other line in its place
   -- no input:
   pub empty : listingOf [] ≡ 33 ∷ 32 ∷ 49 ∷ 54 ∷ 10 ∷ []
-  -- `G 3 4`
-  pub guestFirst : listingOf (71 ∷ 32 ∷ 51 ∷ 32 ∷ 52 ∷ 10 ∷ []) ≡ 33 ∷ 32 ∷ 49 ∷ 54 ∷ 10 ∷ []
-  -- `A 0`
-  pub arriveFirst : listingOf (65 ∷ 32 ∷ 48 ∷ 10 ∷ []) ≡ 33 ∷ 32 ∷ 49 ∷ 54 ∷ 10 ∷ []
+  -- `G 3 4`, `F 8`, `G 3 4`
+  pub guestFirst : listingOf ((71 ∷ 32 ∷ 51 ∷ 32 ∷ 52 ∷ 10 ∷ []) ++ (70 ∷ 32 ∷ 56 ∷ 10 ∷ []) ++ (71 ∷ 32 ∷ 51 ∷ 32 ∷ 52 ∷ 10 ∷ [])) ≡ 33 ∷ 32 ∷ 49 ∷ 54 ∷ 10 ∷ []
+  -- `A 0`, `F 8`, `G 3 4`
+  pub arriveFirst : listingOf ((65 ∷ 32 ∷ 48 ∷ 10 ∷ []) ++ (70 ∷ 32 ∷ 56 ∷ 10 ∷ []) ++ (71 ∷ 32 ∷ 51 ∷ 32 ∷ 52 ∷ 10 ∷ [])) ≡ 33 ∷ 32 ∷ 49 ∷ 54 ∷ 10 ∷ []
   -- `D 0`
   pub doneFirst : listingOf (68 ∷ 32 ∷ 48 ∷ 10 ∷ []) ≡ 33 ∷ 32 ∷ 49 ∷ 54 ∷ 10 ∷ []
   -- `R 1`
@@ -153,9 +153,6 @@ pub record GoesOnHold : Type 0 where
   -- 4: "arrive at a guest with 255 jobs", and not before
   -- `F 8`, `G 3 4`, 256 times `A 0`
   pub jobsFull : listingOf ((70 ∷ 32 ∷ 56 ∷ 10 ∷ []) ++ (71 ∷ 32 ∷ 51 ∷ 32 ∷ 52 ∷ 10 ∷ []) ++ repeated 256 (65 ∷ 32 ∷ 48 ∷ 10 ∷ [])) ≡ (33 ∷ 32 ∷ 52 ∷ 10 ∷ []) ++ (101 ∷ 110 ∷ 100 ∷ 32 ∷ 48 ∷ 10 ∷ [])
-  -- 5: "arrive at an idle guest, spares plus active guests = 64", and not before
-  -- `F 1`, `G 1 1`, 64 times `A 0` and `D 0`, then `A 0`
-  pub noRoom : listingOf ((70 ∷ 32 ∷ 49 ∷ 10 ∷ []) ++ (71 ∷ 32 ∷ 49 ∷ 32 ∷ 49 ∷ 10 ∷ []) ++ repeated 64 (65 ∷ 32 ∷ 48 ∷ 10 ∷ 68 ∷ 32 ∷ 48 ∷ 10 ∷ []) ++ (65 ∷ 32 ∷ 48 ∷ 10 ∷ [])) ≡ (33 ∷ 32 ∷ 53 ∷ 10 ∷ []) ++ (101 ∷ 110 ∷ 100 ∷ 32 ∷ 48 ∷ 10 ∷ [])
   -- 7: "now + k would pass 2^40"
   -- `F 8`, `G 3 4`, `R 1099511627777`, `R 1`
   pub pastTheEnd : listingOf ((70 ∷ 32 ∷ 56 ∷ 10 ∷ []) ++ (71 ∷ 32 ∷ 51 ∷ 32 ∷ 52 ∷ 10 ∷ []) ++ (82 ∷ 32 ∷ 49 ∷ 48 ∷ 57 ∷ 57 ∷ 53 ∷ 49 ∷ 49 ∷ 54 ∷ 50 ∷ 55 ∷ 55 ∷ 55 ∷ 55 ∷ 10 ∷ []) ++ (82 ∷ 32 ∷ 49 ∷ 10 ∷ [])) ≡ (33 ∷ 32 ∷ 55 ∷ 10 ∷ []) ++ (48 ∷ 32 ∷ 49 ∷ 32 ∷ 45 ∷ 32 ∷ 45 ∷ 10 ∷ []) ++ (101 ∷ 110 ∷ 100 ∷ 32 ∷ 49 ∷ 10 ∷ [])

@@ -1,5 +1,4 @@
-// What the program holds between two steps; specs/ has its whole output as a definition, and what a step does.
-ghost use Rattle.listing.specs.Stepping.{Begun, GoingTold};
+// The declared types of what the program holds between two steps. There is no code here: specs/ has the program's whole output and its steps.
 use rules::State;
 use rules::Table;
 
@@ -28,32 +27,4 @@ pub struct Held {
 pub struct Stepped {
     pub held: Held,
     pub filled: usize,
-}
-
-// What is held at first: no table, and the state that is given back for none.
-pub fn begin() -> Held
-    ensures { λ r. ⌜ Begun r ⌝ }
-{
-    let table = table::no_table();
-    let none = engine::fresh(table);
-    let state = none.state;
-    Held {
-        at: 0,
-        stage: Stage::Frames,
-        table,
-        state,
-        left: 0,
-    }
-}
-
-// Whether more is to come.
-pub fn is_going(stage: Stage) -> bool
-    ensures { λ r. ⌜ GoingTold stage r ⌝ }
-{
-    match stage {
-        Stage::Frames => true,
-        Stage::Guests => true,
-        Stage::Commands => true,
-        Stage::Over => false,
-    }
 }

@@ -5,7 +5,7 @@ use Prim.Native.Nat.{ℕ, _+_}
 use lib.ListN.{take}
 use Rattle.listing.specs.declared.Held.{Held}
 use Rattle.listing.specs.Stepping.{goesOn, putOut, heldAfter, atFirst}
-use Rattle.listing.proofs.Steps.{put-then, held-then, steps-are-listing}
+use Rattle.steps.proofs.Steps.{put-then, held-then, steps-are-listing}
 use Rattle.schedule.specs.Filling.{Fillings, begun, filled, FillingsAreListing}
 
 -- so many steps were made in all

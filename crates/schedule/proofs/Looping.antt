@@ -12,8 +12,8 @@ use Rattle.text.specs.Lines.{RoomTold}
 use Rattle.listing.specs.declared.Held.{Held}
 use Rattle.listing.specs.declared.Stepped.{Stepped}
 use Rattle.listing.specs.Stepping.{putOf, heldOf, stepOf, goesOn, toGo, stepRoom, putOut, heldAfter, Begun, GoingTold, Stepping}
-use Rattle.listing.proofs.Falling.{step-falls}
-use Rattle.listing.proofs.Steps.{put-more, held-more}
+use Rattle.steps.proofs.Falling.{step-falls}
+use Rattle.steps.proofs.Steps.{put-more, held-more}
 use Rattle.stepping.proofs.Choosing.{stepping-long, stepping-held, stepping-holds, stepping-content}
 use Rattle.schedule.specs.Filling.{Filled}
 

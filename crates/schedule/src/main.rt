@@ -21,14 +21,14 @@ fn fill(input: &[u8], from: Held, buffer: &mut [u8]) -> Stepped
     let mut held = from;
     let mut filled: usize = 0;
     let first = from.stage;
-    let mut going = listing::is_going(first);
+    let mut going = steps::is_going(first);
     while going {
         let stepped = stepping::step(input, held, buffer, filled);
         let next = stepped.held;
         held = next;
         filled = stepped.filled;
         let stage = next.stage;
-        let more = listing::is_going(stage);
+        let more = steps::is_going(stage);
         let room = lines::has_room(buffer.len(), filled, STEP_ROOM);
         going = more & room;
     }
@@ -39,7 +39,7 @@ fn fill(input: &[u8], from: Held, buffer: &mut [u8]) -> Stepped
 fn run(input: &[u8], buffer: &mut [u8])
     requires { ⌜ stepRoom ≤ length (now buffer) ⌝ }
 {
-    let mut held = listing::begin();
+    let mut held = steps::begin();
     let mut going = true;
     while going {
         let stepped = fill(input, held, buffer);
@@ -50,7 +50,7 @@ fn run(input: &[u8], buffer: &mut [u8])
         let next = stepped.held;
         held = next;
         let stage = next.stage;
-        going = listing::is_going(stage);
+        going = steps::is_going(stage);
     }
 }
 

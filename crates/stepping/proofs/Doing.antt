@@ -33,7 +33,7 @@ use Rattle.text.specs.Lines.{portionBytes, refusalBytes, lineRoom, hasRoom, Lin
 use Rattle.listing.specs.declared.Held.{Held}
 use Rattle.listing.specs.Listing.{refusalIn, portionsBytes, withGuest}
 use Rattle.listing.specs.Stepping.{Step, step, stops, over, goingOn, checks, walks}
-use Rattle.listing.proofs.Resting.{walk-nothing}
+use Rattle.steps.proofs.Resting.{walk-nothing}
 use Rattle.stepping.specs.Parts.{Did, PortionsPut, called}
 
 -- ---- nothing, or one line

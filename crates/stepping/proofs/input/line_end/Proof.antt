@@ -1,7 +1,7 @@
 -- `stepping::input::line_end` meets its contract: no byte up to i is a line feed.
 use Prim.Native.Nat.{_-_}
 use lib.ListN.{length}
-use Rattle.listing.proofs.Inputs.{Passed, passed-start, passed-more, passed-feed, passed-end}
+use Rattle.steps.proofs.Inputs.{Passed, passed-start, passed-more, passed-feed, passed-end}
 use borrow.Author.Needs.{needs}
 use Rattle.stepping.proofs.input.line_end.Statement.{statement}
 use Rattle.stepping.proofs.input.line_end.Tie as tie

@@ -1,7 +1,7 @@
 -- `stepping::input::next_line` meets its contract.
 use native.Mathlib.Omega.{arith}
 use denote.Ref.{now}
-use Rattle.listing.proofs.Inputs.{next-none, next-some}
+use Rattle.steps.proofs.Inputs.{next-none, next-some}
 use borrow.Author.Needs.{needs}
 use Rattle.stepping.proofs.input.next_line.Statement.{statement}
 use Rattle.stepping.proofs.input.next_line.Tie as tie

@@ -15,12 +15,12 @@ use Rattle.promises.proofs.Walks.{walk-left-falls, walk-left-bound}
 use Rattle.text.specs.declared.Line.{Line}
 use Rattle.text.specs.declared.Line.the-variants.{Frame, Guest, Arrive, Done, Advance, Malformed}
 use Rattle.text.specs.Script.{malformed}
 use Rattle.listing.specs.declared.Stage.{Stage}
 use Rattle.listing.specs.declared.Stage.the-variants.{Frames, Guests, Commands, Over}
 use Rattle.listing.specs.declared.Held.{Held}
 use Rattle.listing.specs.Listing.{mostInput}
 use Rattle.listing.specs.Stepping.{lineAt, behind, Step, heldOf, stops, over, ends, frameLine, checks, guestLine, walks, commandLine, stepIn, stepOf, goesOn, stagesLeft, toGo, StepFalls}
-use Rattle.listing.proofs.Inputs.{line-end, behind-low, behind-high}
+use Rattle.steps.proofs.Inputs.{line-end, behind-low, behind-high}
 
 -- the first number is smaller, and the second no greater than the weight allows
 pub weigh : (a b w x y : ℕ) → a < b → x < w → a * w + x < b * w + y

@@ -1,8 +1,8 @@
 -- `listing::is_going` meets its contract. The file is there so that another answer is refused at the answer itself.
 use mathlib.Core.Path.{refl}
 use borrow.Author.Needs.{needs}
-use Rattle.listing.proofs.is_going.Statement.{statement}
-use Rattle.listing.proofs.is_going.Tie as tie
+use Rattle.steps.proofs.is_going.Statement.{statement}
+use Rattle.steps.proofs.is_going.Tie as tie
 
 enum-told : tie.Need-enum-told
 enum-told c = search needs

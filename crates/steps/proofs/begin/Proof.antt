@@ -6,11 +6,11 @@ use Rattle.rules.specs.Refusals.{first}
 use Rattle.rules.specs.Table.{tableRows}
 use Rattle.rules.specs.Places.{freshState, noState}
 use Rattle.rules.specs.Calls.{kept, NoTableMade, Freshened}
 use Rattle.listing.specs.declared.Stage.the-variants.{Frames}
 use Rattle.listing.specs.Stepping.{Begun}
 use borrow.Author.Needs.{needs}
-use Rattle.listing.proofs.begin.Statement.{statement}
-use Rattle.listing.proofs.begin.Tie as tie
+use Rattle.steps.proofs.begin.Statement.{statement}
+use Rattle.steps.proofs.begin.Tie as tie
 
 -- a table without guests is refused, and its state is all zeros
 begun : {table : Table} {r : Outcome} → NoTableMade table → Freshened table r → Begun (record { at = 0; stage = Frames; table = table; state = r .state; left = 0 })

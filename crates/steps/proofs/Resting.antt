@@ -22,12 +22,12 @@ use Rattle.text.specs.declared.Line.{Line}
 use Rattle.text.specs.declared.Line.the-variants.{Frame, Guest, Arrive, Done, Advance, Malformed}
 use Rattle.text.specs.Script.{malformed}
 use Rattle.text.specs.Lines.{refusalBytes, endBytes}
 use Rattle.listing.specs.declared.Stage.{Stage}
 use Rattle.listing.specs.declared.Stage.the-variants.{Frames, Guests, Commands, Over}
 use Rattle.listing.specs.declared.Held.{Held}
 use Rattle.listing.specs.Listing.{asked, refusalIn, portionsBytes, printed, commands, checkedBy, checked, guests, listed, mostInput}
 use Rattle.listing.specs.Stepping.{lineAt, behind, Step, putOf, heldOf, stops, ends, frameLine, checks, guestLine, calls, walks, commandLine, stepIn, stepOf}
-use Rattle.listing.proofs.Inputs.{asked-end, asked-cons, line-end}
+use Rattle.steps.proofs.Inputs.{asked-end, asked-cons, line-end}
 
 -- ---- portions
 

@@ -6,13 +6,13 @@ use Prim.Native.Nat.{ℕ, zero, suc, _+_, _≤_}
 use native.Mathlib.Nat.{zero-add, suc-add}
 use native.Mathlib.Omega.{arith}
 use Rattle.laws.proofs.Cases.{by-test}
 use Rattle.listing.specs.declared.Stage.{Stage}
 use Rattle.listing.specs.declared.Stage.the-variants.{Frames, Guests, Commands, Over}
 use Rattle.listing.specs.declared.Held.{Held}
 use Rattle.listing.specs.Listing.{listingOf}
 use Rattle.listing.specs.Stepping.{putOf, heldOf, stepIn, stepOf, goesOn, toGo, putOut, heldAfter, atFirst, StepsAreListing, StepsEnd}
-use Rattle.listing.proofs.Falling.{step-falls}
-use Rattle.listing.proofs.Resting.{rest, Fit, step-puts}
+use Rattle.steps.proofs.Falling.{step-falls}
+use Rattle.steps.proofs.Resting.{rest, Fit, step-puts}
 
 -- ---- what they put out
 
