@@ -104,7 +104,6 @@ impl<Told: Sink> Teller<'_, Told> {
 
     pub fn state(&mut self, state: &State) {
         self.table(&state.table);
-        self.named("state", None, "now", state.now);
         for (place, guest) in state.guests.iter().enumerate() {
             let numbers = [
                 ("jobs", guest.jobs),
@@ -115,7 +114,6 @@ impl<Told: Sink> Teller<'_, Told> {
             ];
             self.fields("guest", place, &numbers);
         }
-        self.named("state", None, "spares", state.spare_count);
         for (place, spare) in state.spares.iter().enumerate() {
             let numbers = [
                 ("deadline", spare.deadline),
@@ -124,6 +122,8 @@ impl<Told: Sink> Teller<'_, Told> {
             ];
             self.fields("spare", place, &numbers);
         }
+        self.named("state", None, "now", state.now);
+        self.named("state", None, "spares", state.spare_count);
         self.named("state", None, "burned", state.burning_ticks);
         self.named("state", None, "idle", state.nothing_ticks);
     }
@@ -171,10 +171,10 @@ pub const TABLE_NUMBERS: usize = 34;
 pub const STATE_NUMBERS: usize = 310;
 /// Where the parts of a state begin, counted in numbers.
 pub const ENTRIES: usize = 2;
-pub const NOW: usize = 34;
-pub const GUESTS: usize = 35;
-pub const SPARE_COUNT: usize = 115;
-pub const SPARES: usize = 116;
+pub const GUESTS: usize = 34;
+pub const SPARES: usize = 114;
+pub const NOW: usize = 306;
+pub const SPARE_COUNT: usize = 307;
 pub const BURNED: usize = 308;
 pub const IDLE: usize = 309;
 

@@ -8,7 +8,7 @@ use rules::Spare;
 use rules::State;
 use rules::Table;
 
-pub(crate) fn put_byte(x: u8, buffer: &mut [u8], filled: usize) -> usize {
+fn put_byte(x: u8, buffer: &mut [u8], filled: usize) -> usize {
     if buffer.len() <= filled {
         return filled;
     }
@@ -28,11 +28,22 @@ pub(crate) fn put_number(x: u64, buffer: &mut [u8], filled: usize) -> usize {
     at
 }
 
+// How many there are, and the bytes.
 pub(crate) fn put_bytes(bytes: &[u8], buffer: &mut [u8], filled: usize) -> usize {
     let mut at = put_number(bytes.len() as u64, buffer, filled);
     let mut i: usize = 0;
     while i < bytes.len() {
         at = put_byte(bytes[i], buffer, at);
+        i = i + 1;
+    }
+    at
+}
+
+pub(crate) fn put_numbers(numbers: &[u64], buffer: &mut [u8], filled: usize) -> usize {
+    let mut at = filled;
+    let mut i: usize = 0;
+    while i < numbers.len() {
+        at = put_number(numbers[i], buffer, at);
         i = i + 1;
     }
     at
@@ -44,30 +55,21 @@ pub(crate) fn put_answer(answer: Answer, buffer: &mut [u8], filled: usize) -> us
     put_number(number as u64, buffer, filled)
 }
 
-fn put_entry(e: Entry, buffer: &mut [u8], filled: usize) -> usize {
-    let at = put_number(e.budget, buffer, filled);
-    put_number(e.period, buffer, at)
-}
-
-pub(crate) fn put_table(t: Table, buffer: &mut [u8], filled: usize) -> usize {
-    let entries = t.entries;
-    let framed = put_number(t.frame, buffer, filled);
-    let mut at = put_number(t.count as u64, buffer, framed);
+fn put_entries(entries: [Entry; GUEST_PLACES], buffer: &mut [u8], filled: usize) -> usize {
+    let mut at = filled;
     let mut i: usize = 0;
     while i < GUEST_PLACES {
         let e = entries[i];
-        at = put_entry(e, buffer, at);
+        at = put_numbers(&[e.budget, e.period], buffer, at);
         i = i + 1;
     }
     at
 }
 
-fn put_guest(g: Guest, buffer: &mut [u8], filled: usize) -> usize {
-    let jobs = put_number(g.jobs, buffer, filled);
-    let left = put_number(g.left, buffer, jobs);
-    let deadline = put_number(g.deadline, buffer, left);
-    let own = put_number(g.own, buffer, deadline);
-    put_number(g.lent, buffer, own)
+pub(crate) fn put_table(t: Table, buffer: &mut [u8], filled: usize) -> usize {
+    let entries = t.entries;
+    let at = put_numbers(&[t.frame, t.count as u64], buffer, filled);
+    put_entries(entries, buffer, at)
 }
 
 fn put_guests(guests: [Guest; GUEST_PLACES], buffer: &mut [u8], filled: usize) -> usize {
@@ -75,16 +77,10 @@ fn put_guests(guests: [Guest; GUEST_PLACES], buffer: &mut [u8], filled: usize) -
     let mut i: usize = 0;
     while i < GUEST_PLACES {
         let g = guests[i];
-        at = put_guest(g, buffer, at);
+        at = put_numbers(&[g.jobs, g.left, g.deadline, g.own, g.lent], buffer, at);
         i = i + 1;
     }
     at
-}
-
-fn put_spare(x: Spare, buffer: &mut [u8], filled: usize) -> usize {
-    let deadline = put_number(x.deadline, buffer, filled);
-    let owner = put_number(x.owner as u64, buffer, deadline);
-    put_number(x.capacity, buffer, owner)
 }
 
 fn put_spares(spares: [Spare; SPARE_PLACES], buffer: &mut [u8], filled: usize) -> usize {
@@ -92,7 +88,7 @@ fn put_spares(spares: [Spare; SPARE_PLACES], buffer: &mut [u8], filled: usize) -
     let mut i: usize = 0;
     while i < SPARE_PLACES {
         let x = spares[i];
-        at = put_spare(x, buffer, at);
+        at = put_numbers(&[x.deadline, x.owner as u64, x.capacity], buffer, at);
         i = i + 1;
     }
     at
@@ -103,10 +99,11 @@ pub(crate) fn put_state(s: State, buffer: &mut [u8], filled: usize) -> usize {
     let guests = s.guests;
     let spares = s.spares;
     let table_end = put_table(t, buffer, filled);
-    let now_end = put_number(s.now, buffer, table_end);
-    let guests_end = put_guests(guests, buffer, now_end);
-    let count_end = put_number(s.count as u64, buffer, guests_end);
-    let spares_end = put_spares(spares, buffer, count_end);
-    let burned_end = put_number(s.burned, buffer, spares_end);
-    put_number(s.idle, buffer, burned_end)
+    let guests_end = put_guests(guests, buffer, table_end);
+    let spares_end = put_spares(spares, buffer, guests_end);
+    put_numbers(
+        &[s.now, s.count as u64, s.burned, s.idle],
+        buffer,
+        spares_end,
+    )
 }

@@ -1,6 +1,7 @@
 // A request of a state, a guest number and a number of ticks: every call that takes a state, each on that same state.
 use crate::put::put_answer;
 use crate::put::put_number;
+use crate::put::put_numbers;
 use crate::put::put_state;
 use crate::taken::state_in;
 use crate::wire::number_at;
@@ -24,27 +25,15 @@ const TICKS: usize = 311;
 // The numbers of such a request, in bytes.
 const REQUEST_LENGTH: usize = 2496;
 
-// A portion of a walk, or what ask tells of one.
-fn put_portion(kind: u64, guest: usize, owner: usize, buffer: &mut [u8], filled: usize) -> usize {
-    let kind_end = put_number(kind, buffer, filled);
-    let guest_end = put_number(guest as u64, buffer, kind_end);
-    put_number(owner as u64, buffer, guest_end)
-}
-
-fn put_used(used: Used, buffer: &mut [u8], filled: usize) -> usize {
-    match used {
-        Used::Own(guest) => put_portion(1, guest, 0, buffer, filled),
-        Used::SpareOf(guest, owner) => put_portion(2, guest, owner, buffer, filled),
-        Used::Burned(owner) => put_portion(3, 0, owner, buffer, filled),
-        Used::Idle => put_portion(0, 0, 0, buffer, filled),
-    }
-}
-
-fn put_walked(p: Portion, buffer: &mut [u8], filled: usize) -> usize {
+fn put_portion(p: Portion, buffer: &mut [u8], filled: usize) -> usize {
     let used = p.used;
-    let first_end = put_number(p.first, buffer, filled);
-    let end_end = put_number(p.end, buffer, first_end);
-    put_used(used, buffer, end_end)
+    let at = put_numbers(&[p.first, p.end], buffer, filled);
+    match used {
+        Used::Own(guest) => put_numbers(&[1, guest as u64, 0], buffer, at),
+        Used::SpareOf(guest, owner) => put_numbers(&[2, guest as u64, owner as u64], buffer, at),
+        Used::Burned(owner) => put_numbers(&[3, 0, owner as u64], buffer, at),
+        Used::Idle => put_numbers(&[0, 0, 0], buffer, at),
+    }
 }
 
 fn put_outcome(r: Outcome, buffer: &mut [u8], filled: usize) -> usize {
@@ -54,49 +43,37 @@ fn put_outcome(r: Outcome, buffer: &mut [u8], filled: usize) -> usize {
     put_state(state, buffer, at)
 }
 
-fn put_walk(w: Walk, buffer: &mut [u8], filled: usize) -> usize {
-    let answer = w.answer;
-    let state = w.state;
-    let portions = w.portions;
-    let answer_end = put_answer(answer, buffer, filled);
-    let state_end = put_state(state, buffer, answer_end);
-    let left_end = put_number(w.left, buffer, state_end);
-    let mut at = put_number(w.count as u64, buffer, left_end);
+fn put_portions(portions: [Portion; PORTION_PLACES], buffer: &mut [u8], filled: usize) -> usize {
+    let mut at = filled;
     let mut i: usize = 0;
     while i < PORTION_PLACES {
         let p = portions[i];
-        at = put_walked(p, buffer, at);
+        at = put_portion(p, buffer, at);
         i = i + 1;
     }
     at
 }
 
-fn put_source(source: Source, guest: usize, buffer: &mut [u8], filled: usize) -> usize {
+fn put_walk(w: Walk, buffer: &mut [u8], filled: usize) -> usize {
+    let answer = w.answer;
+    let state = w.state;
+    let portions = w.portions;
+    let stepped = put_outcome(Outcome { answer, state }, buffer, filled);
+    let told = put_numbers(&[w.left, w.count as u64], buffer, stepped);
+    put_portions(portions, buffer, told)
+}
+
+fn put_run(
+    guest: u64,
+    source: Source,
+    due: u64,
+    span: u64,
+    buffer: &mut [u8],
+    filled: usize,
+) -> usize {
     match source {
-        Source::Own => put_portion(1, guest, 0, buffer, filled),
-        Source::SpareOf(owner) => put_portion(2, guest, owner, buffer, filled),
-    }
-}
-
-fn put_span(deadline: u64, span: u64, buffer: &mut [u8], filled: usize) -> usize {
-    let at = put_number(deadline, buffer, filled);
-    put_number(span, buffer, at)
-}
-
-fn put_next(next: Next, buffer: &mut [u8], filled: usize) -> usize {
-    match next {
-        Next::Run(guest, source, deadline, span) => {
-            let at = put_source(source, guest, buffer, filled);
-            put_span(deadline, span, buffer, at)
-        }
-        Next::Burn(owner, deadline, span) => {
-            let at = put_portion(3, 0, owner, buffer, filled);
-            put_span(deadline, span, buffer, at)
-        }
-        Next::Nothing => {
-            let at = put_portion(0, 0, 0, buffer, filled);
-            put_span(0, 0, buffer, at)
-        }
+        Source::Own => put_numbers(&[1, guest, 0, due, span], buffer, filled),
+        Source::SpareOf(owner) => put_numbers(&[2, guest, owner as u64, due, span], buffer, filled),
     }
 }
 
@@ -104,14 +81,17 @@ fn put_asked(asked: Asked, buffer: &mut [u8], filled: usize) -> usize {
     let answer = asked.answer;
     let next = asked.next;
     let at = put_answer(answer, buffer, filled);
-    put_next(next, buffer, at)
+    match next {
+        Next::Run(guest, source, due, span) => put_run(guest as u64, source, due, span, buffer, at),
+        Next::Burn(owner, due, span) => put_numbers(&[3, 0, owner as u64, due, span], buffer, at),
+        Next::Nothing => put_numbers(&[0, 0, 0, 0, 0], buffer, at),
+    }
 }
 
 fn put_activity(told: Activity, buffer: &mut [u8], filled: usize) -> usize {
     let answer = told.answer;
-    let answer_end = put_answer(answer, buffer, filled);
-    let mask_end = put_number(told.mask as u64, buffer, answer_end);
-    put_number(told.count as u64, buffer, mask_end)
+    let at = put_answer(answer, buffer, filled);
+    put_numbers(&[told.mask as u64, told.count as u64], buffer, at)
 }
 
 fn lowest_bit(x: i64) -> u64 {

@@ -12,13 +12,13 @@ use rules::Table;
 // Where the parts of a state begin, in numbers.
 const ENTRIES: usize = 2;
 
-const NOW: usize = 34;
+const GUESTS: usize = 34;
 
-const GUESTS: usize = 35;
+const SPARES: usize = 114;
 
-const SPARE_COUNT: usize = 115;
+const NOW: usize = 306;
 
-const SPARES: usize = 116;
+const SPARE_COUNT: usize = 307;
 
 const BURNED: usize = 308;
 
@@ -120,10 +120,10 @@ fn spares_in(bytes: &[u8]) -> [Spare; SPARE_PLACES] {
 
 pub(crate) fn state_in(bytes: &[u8]) -> State {
     let table = table_in(bytes);
-    let now = number_at(bytes, NOW);
     let guests = guests_in(bytes);
-    let count = number_at(bytes, SPARE_COUNT);
     let spares = spares_in(bytes);
+    let now = number_at(bytes, NOW);
+    let count = number_at(bytes, SPARE_COUNT);
     let burned = number_at(bytes, BURNED);
     let idle = number_at(bytes, IDLE);
     State {

@@ -4,8 +4,8 @@
 //   1: a state, a guest number and a number of ticks;
 //   2: a table, the length of a buffer (at most 200) and a number whose low byte fills it;
 //   3: the length of an image (at most 65,600) and its bytes.
-// A table is its frame, its count, and budget and period of all 16 places. A state is its table, now, of each of the 16 guests jobs,
-// left, deadline, own and lent, the count of spares, of each of the 64 spares deadline, owner and capacity, burned and idle: 310 numbers.
+// A table is its frame, its count, and budget and period of all 16 places. A state is its table, of each of the 16 guests jobs, left,
+// deadline, own and lent, of each of the 64 spares deadline, owner and capacity, then now, the count of spares, burned and idle: 310 numbers.
 //
 // The answers come in the order of the requests. Each call's answer starts with its refusal number, or 0:
 //   1: arrive, done and advance, each with its state; walk with its state, left, count, and of each of the 64 portions first, end, kind,

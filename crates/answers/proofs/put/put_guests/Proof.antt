@@ -21,8 +21,11 @@ mul-g c = search needs
 array-copy-out-g : tie.Need-array-copy-out-g Inv-loop μ-loop
 array-copy-out-g c = search needs
 
-put-guest-requires : tie.Need-put-guest-requires Inv-loop μ-loop
-put-guest-requires c κs = search needs
+slice-aggregate-put-numbers : tie.Need-slice-aggregate-put-numbers Inv-loop μ-loop
+slice-aggregate-put-numbers c = search needs
+
+put-numbers-requires : tie.Need-put-numbers-requires Inv-loop μ-loop
+put-numbers-requires c κs = search needs
 
 add-i : tie.Need-add-i Inv-loop μ-loop
 add-i c = search needs
@@ -48,7 +51,8 @@ put-guests-spec =
     loop-holds
     mul-g
     array-copy-out-g
-    put-guest-requires
+    slice-aggregate-put-numbers
+    put-numbers-requires
     add-i
     loop-less
     loop-again

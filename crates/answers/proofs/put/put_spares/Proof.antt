@@ -21,8 +21,11 @@ mul-x c = search needs
 array-copy-out-x : tie.Need-array-copy-out-x Inv-loop μ-loop
 array-copy-out-x c = search needs
 
-put-spare-requires : tie.Need-put-spare-requires Inv-loop μ-loop
-put-spare-requires c κs = search needs
+slice-aggregate-put-numbers : tie.Need-slice-aggregate-put-numbers Inv-loop μ-loop
+slice-aggregate-put-numbers c = search needs
+
+put-numbers-requires : tie.Need-put-numbers-requires Inv-loop μ-loop
+put-numbers-requires c κs = search needs
 
 add-i : tie.Need-add-i Inv-loop μ-loop
 add-i c = search needs
@@ -48,7 +51,8 @@ put-spares-spec =
     loop-holds
     mul-x
     array-copy-out-x
-    put-spare-requires
+    slice-aggregate-put-numbers
+    put-numbers-requires
     add-i
     loop-less
     loop-again

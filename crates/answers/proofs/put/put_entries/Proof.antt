@@ -1,22 +1,16 @@
--- `answers::put::put_table` is safe and ends: a turn for each of the 16 places, and the buffer keeps its length.
+-- `answers::put::put_entries` is safe and ends: a turn for each of the 16 places, and the buffer keeps its length.
 use Prim.Native.Nat.{_≤_, _-_}
 use mathlib.Core.Path.{_≡_}
 use lib.ListN.{length}
 use borrow.Author.Needs.{needs}
-use Rattle.answers.proofs.put.put_table.Statement.{statement}
-use Rattle.answers.proofs.put.put_table.Tie as tie
+use Rattle.answers.proofs.put.put_entries.Statement.{statement}
+use Rattle.answers.proofs.put.put_entries.Tie as tie
 
 abbrev Inv-loop : tie.InvT-loop
-Inv-loop buffer₀ filled entries framed at₀ i₀ buffer at i = (i ≤ 16) × (length buffer ≡ length buffer₀)
+Inv-loop buffer₀ filled entries at₀ i₀ buffer at i = (i ≤ 16) × (length buffer ≡ length buffer₀)
 
 abbrev μ-loop : tie.MeasureT-loop
-μ-loop buffer₀ filled entries framed at₀ i₀ buffer at i = 16 - i
-
-put-number-requires : tie.Need-put-number-requires Inv-loop μ-loop
-put-number-requires c κs = search needs
-
-put-number-requires-2 : tie.Need-put-number-requires-2 Inv-loop μ-loop
-put-number-requires-2 c κs = search needs
+μ-loop buffer₀ filled entries at₀ i₀ buffer at i = 16 - i
 
 loop-holds : tie.Need-loop-holds Inv-loop μ-loop
 loop-holds c = search needs
@@ -27,8 +21,11 @@ mul-e c = search needs
 array-copy-out-e : tie.Need-array-copy-out-e Inv-loop μ-loop
 array-copy-out-e c = search needs
 
-put-entry-requires : tie.Need-put-entry-requires Inv-loop μ-loop
-put-entry-requires c κs = search needs
+slice-aggregate-put-numbers : tie.Need-slice-aggregate-put-numbers Inv-loop μ-loop
+slice-aggregate-put-numbers c = search needs
+
+put-numbers-requires : tie.Need-put-numbers-requires Inv-loop μ-loop
+put-numbers-requires c κs = search needs
 
 add-i : tie.Need-add-i Inv-loop μ-loop
 add-i c = search needs
@@ -45,18 +42,17 @@ same-length c = search needs
 returns : tie.Need-returns Inv-loop μ-loop
 returns c = search needs
 
-pub put-table-spec : {M : Type 1} → statement M
-put-table-spec =
+pub put-entries-spec : {M : Type 1} → statement M
+put-entries-spec =
     tie.close
     (tie.spec
     Inv-loop
     μ-loop
-    put-number-requires
-    put-number-requires-2
     loop-holds
     mul-e
     array-copy-out-e
-    put-entry-requires
+    slice-aggregate-put-numbers
+    put-numbers-requires
     add-i
     loop-less
     loop-again

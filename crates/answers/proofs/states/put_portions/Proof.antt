@@ -1,0 +1,56 @@
+-- `answers::states::put_portions` is safe and ends: a turn for each of the 64 places, and the buffer keeps its length.
+use Prim.Native.Nat.{_≤_, _-_}
+use mathlib.Core.Path.{_≡_}
+use lib.ListN.{length}
+use borrow.Author.Needs.{needs}
+use Rattle.answers.proofs.states.put_portions.Statement.{statement}
+use Rattle.answers.proofs.states.put_portions.Tie as tie
+
+abbrev Inv-loop : tie.InvT-loop
+Inv-loop buffer₀ filled portions at₀ i₀ buffer at i = (i ≤ 64) × (length buffer ≡ length buffer₀)
+
+abbrev μ-loop : tie.MeasureT-loop
+μ-loop buffer₀ filled portions at₀ i₀ buffer at i = 64 - i
+
+loop-holds : tie.Need-loop-holds Inv-loop μ-loop
+loop-holds c = search needs
+
+mul-p : tie.Need-mul-p Inv-loop μ-loop
+mul-p c = search needs
+
+array-copy-out-p : tie.Need-array-copy-out-p Inv-loop μ-loop
+array-copy-out-p c = search needs
+
+put-portion-requires : tie.Need-put-portion-requires Inv-loop μ-loop
+put-portion-requires c κs = search needs
+
+add-i : tie.Need-add-i Inv-loop μ-loop
+add-i c = search needs
+
+loop-less : tie.Need-loop-less Inv-loop μ-loop
+loop-less c = search needs
+
+loop-again : tie.Need-loop-again Inv-loop μ-loop
+loop-again c = search needs
+
+same-length : tie.Need-same-length Inv-loop μ-loop
+same-length c = search needs
+
+returns : tie.Need-returns Inv-loop μ-loop
+returns c = search needs
+
+pub put-portions-spec : {M : Type 1} → statement M
+put-portions-spec =
+    tie.close
+    (tie.spec
+    Inv-loop
+    μ-loop
+    loop-holds
+    mul-p
+    array-copy-out-p
+    put-portion-requires
+    add-i
+    loop-less
+    loop-again
+    same-length
+    returns)
