@@ -131,6 +131,7 @@ line-comes-next =
       length = refl;
       lengthOpen = refl;
       lengthNothing = refl;
+      lengthBeside = refl;
       guest = refl;
       last = refl;
       end = refl;

@@ -69,6 +69,7 @@ pub record LineComesNext : Type 0 where
   pub length : lineLength (70 ∷ 32 ∷ 56 ∷ 10 ∷ 71 ∷ []) ≡ 4
   pub lengthOpen : lineLength (70 ∷ 32 ∷ 56 ∷ []) ≡ 3
   pub lengthNothing : lineLength [] ≡ 0
+  pub lengthBeside : lineLength (70 ∷ 9 ∷ 11 ∷ 10 ∷ []) ≡ 4
   pub guest : saidBy (lineAt program 4) ≡ says 71 (1 ∷ 1 ∷ [])
   pub last : saidBy (lineAt program 19) ≡ says 68 (0 ∷ [])
   pub end : saidBy (lineAt program 23) ≡ refuses 16

@@ -185,9 +185,9 @@ pub record PortionsHold : Type 0 where
 
 -- ---- the lines of the input, and how much of it is taken
 
--- each line with its line feed, and the last one without
+-- each line with its line feed, and the last one without; the bytes beside the line feed end none
 abbrev pub LinesSplit : Type 0
-LinesSplit = linesIn (70 ∷ 56 ∷ 10 ∷ 10 ∷ 65 ∷ 10 ∷ 82 ∷ 49 ∷ []) ≡ (70 ∷ 56 ∷ 10 ∷ []) ∷ (10 ∷ []) ∷ (65 ∷ 10 ∷ []) ∷ (82 ∷ 49 ∷ []) ∷ []
+LinesSplit = linesIn (70 ∷ 9 ∷ 56 ∷ 10 ∷ 10 ∷ 65 ∷ 11 ∷ 10 ∷ 82 ∷ 49 ∷ []) ≡ (70 ∷ 9 ∷ 56 ∷ 10 ∷ []) ∷ (10 ∷ []) ∷ (65 ∷ 11 ∷ 10 ∷ []) ∷ (82 ∷ 49 ∷ []) ∷ []
 
 -- "at most 65,536 bytes", "For too much input nothing else is printed"
 pub record InputBound : Type 0 where
