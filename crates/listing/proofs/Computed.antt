@@ -1,5 +1,8 @@
 -- 01's own listing, the short inputs and the steps, by computing.
-use mathlib.Core.Path.{refl}
+use mathlib.Core.Path.{refl, ap}
+use mathlib.Core.Bool.{Bool, cond}
+use mathlib.Core.List.{List}
+use Prim.Native.Nat.{ℕ}
 use native.Mathlib.Omega.{arith}
 use lib.ListN.{length}
 use borrow.Author.Tests.{lt-ltb, le-ltb}
@@ -10,13 +13,14 @@ use Rattle.rules.specs.Sound.{inRange, sound}
 use Rattle.rules.specs.Calls.{stateAfter}
 use Rattle.rules.specs.Lines.{lines, linesOf}
 use Rattle.rules.specs.Walks.{walkLines, walkState, walkLeft}
-use Rattle.text.specs.Script.{lineOf}
+use Rattle.text.specs.Script.{malformed, lineOf}
 use Rattle.text.specs.Lines.{portionBytes, refusalBytes, endBytes}
 use Rattle.text.specs.Decimal.{decimal}
-use Rattle.listing.specs.Listing.{linesIn, listingOf, asked, listed, guests, checked, commands, printed}
+use Rattle.listing.specs.Listing.{mostInput, linesIn, listingOf, asked, listed, guests, checked, commands, printed}
 use Rattle.listing.specs.Worked.{repeated, WorkedHolds, OrderHolds, StopsHold, GoesOnHold, PortionsHold, LinesSplit, InputBound}
-use Rattle.listing.specs.Stepping.{lineLength, lineAt, behind, stepOf, putOut, heldAfter}
-use Rattle.listing.specs.Rows.{LineComesNext, StepsHold, StepsStop, TablesHold, StepBound, StepsPut, StagesHold}
+use Rattle.listing.specs.declared.Held.{Held}
+use Rattle.listing.specs.Stepping.{lineLength, lineAt, behind, Step, stops, frameLine, stepOf, putOut, heldAfter}
+use Rattle.listing.specs.Rows.{shown, LineComesNext, StepsHold, StepsStop, TablesHold, StepBound, StepsPut, StagesHold}
 
 pub worked-holds : WorkedHolds
 unfolding listingOf asked listed guests checked commands printed lineOf portionBytes refusalBytes endBytes decimal goodTable arrive done renewed next serve tick advance ask model packed freshState inRange sound stateAfter lines linesOf
@@ -108,8 +112,8 @@ pub input-bound : InputBound
 unfolding listingOf refusalBytes decimal
 input-bound =
     record {
-      taken = λ input h. rw (le-ltb 65536 (length input) h) refl;
-      refused = λ input h. rw (lt-ltb 65536 (length input) h) refl;
+      taken = λ input h. rw (le-ltb mostInput (length input) (omega arith)) refl;
+      refused = λ input h. rw (lt-ltb mostInput (length input) (omega arith)) refl;
     }
 
 -- ---- the steps
@@ -205,10 +209,14 @@ stages-hold =
       toGoOver = refl;
     }
 
+-- a step of the first stage, where the input is too much or not
+abbrev framesBy : List ℕ → Held → Bool → Step
+framesBy input h t = cond t (stops malformed h) (frameLine (lineAt input (h .at)) (behind input (h .at)) h)
+
 pub step-bound : StepBound
 unfolding refusalBytes decimal
 step-bound =
     record {
-      taken = λ input h k. rw (le-ltb 65536 (length input) k) refl;
-      refused = λ input h k. rw (lt-ltb 65536 (length input) k) refl;
+      taken = λ input h k. ap (framesBy input h) (le-ltb mostInput (length input) (omega arith));
+      refused = λ input h k. ap (λ (t : Bool). shown (framesBy input h t)) (lt-ltb mostInput (length input) (omega arith));
     }
