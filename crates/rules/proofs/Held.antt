@@ -309,6 +309,7 @@ lines-held =
       most = refl;
       none-printed = refl;
       refused = refl;
+      to-the-end = refl;
       other-calls = refl;
       not-joined = refl;
     }
@@ -322,6 +323,7 @@ walks-held =
       empty = refl;
       ticks = refl;
       walked = record { answer = refl; state = refl; left = refl; count = refl; portions = refl };
+      walked-to-the-end = record { answer = refl; state = refl; left = refl; count = refl; portions = refl };
       walked-refused = record { answer = refl; state = refl; left = refl; count = refl; portions = refl };
       portions = refl;
       left = refl;

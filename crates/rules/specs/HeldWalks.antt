@@ -38,6 +38,7 @@ pub record LinesHeld : Type 0 where
   -- "an `R` of 0 prints none", a refused one too, and no other call has any
   pub none-printed : linesOf (advances 0) sample ≡ []
   pub refused : linesOf (advances 1) (lone 1099511627776 0 0 0) ≡ []
+  pub to-the-end : linesOf (advances 5) (lone 1099511627771 0 0 0) ≡ line 1099511627771 1099511627776 idle ∷ []
   pub other-calls : map (λ c. linesOf c sample) (arrives 1 ∷ finishes 0 ∷ asks ∷ asksActive ∷ asksMargin 0 ∷ []) ≡ [] ∷ [] ∷ [] ∷ [] ∷ [] ∷ []
   -- "Lines of two `R` commands are not joined"
   pub not-joined : listing (advances 1 ∷ arrives 0 ∷ advances 2 ∷ []) sample ≡ line 10 11 (spareOf 0 1) ∷ line 11 13 (spareOf 0 1) ∷ []
@@ -57,6 +58,15 @@ pub record WalksHeld : Type 0 where
         left = 0;
         count = 3;
         portions = portionIn 10 14 (SpareOf 0 1) ∷ portionIn 14 15 (SpareOf 0 1) ∷ portionIn 15 17 (SpareOf 0 0) ∷ replicate 61 (portionIn 0 0 Idle);
+      })
+  pub walked-to-the-end :
+      Walked (lone 1099511627771 0 0 0) 5
+      (record {
+        answer = Went;
+        state = lone 1099511627776 0 0 0;
+        left = 0;
+        count = 1;
+        portions = portionIn 1099511627771 1099511627776 Idle ∷ replicate 63 (portionIn 0 0 Idle);
       })
   pub walked-refused :
       Walked (lone 1099511627776 0 0 0) 1
