@@ -8,7 +8,7 @@ use Rattle.rules.specs.Image.{tableIn, imageOf}
 use Rattle.rules.specs.Calls.{stateAfter, run}
 use Rattle.rules.specs.Lines.{lines, linesOf, listing}
 use Rattle.rules.specs.Walks.{ticksIn, walkLines, walkState, walkLeft}
-use Rattle.rules.specs.Samples.{sample, withFirst, withSecond, withSpares, withIdle, withLastGuest, withLastSpare, withCount, withTable, lone, row, crowded, overcounted}
+use Rattle.rules.specs.Samples.{sample, withFirst, withSecond, withSpares, withIdle, withLastGuest, withLastSpare, withCount, withTable, lone, row, crowded, overcounted, leftAt}
 use Rattle.rules.specs.HeldTable.{RefusalsHeld, TableHeld}
 use Rattle.rules.specs.HeldSound.{SoundHeld}
 use Rattle.rules.specs.HeldSteps.{ModelHeld, CallsStepHeld, TickHeld, AskHeld, PlacesHeld}
@@ -69,7 +69,7 @@ table-held =
     }
 
 pub sound-held : SoundHeld
-unfolding sample withFirst withSecond withSpares withIdle withLastGuest withLastSpare withCount withTable lone row crowded overcounted goodTable model packed inRange sound
+unfolding sample withFirst withSecond withSpares withIdle withLastGuest withLastSpare withCount withTable lone row crowded overcounted leftAt goodTable model packed inRange sound
 sound-held =
     record {
       kept = refl;
@@ -98,6 +98,7 @@ sound-held =
       rising-last = refl;
       room = refl;
       bound-at-0 = refl;
+      bound-of-spare = refl;
       bound-at-1 = refl;
       bound-at-10 = refl;
       idle-owner = refl;
@@ -136,6 +137,7 @@ calls-step-held =
       wake-at = refl;
       wake-ahead = refl;
       join-idle = refl;
+      join-behind = refl;
       join-active = refl;
       join-several = refl;
       arrive-second = refl;

@@ -9,7 +9,7 @@ use Rattle.rules.specs.declared.State.{State}
 use Rattle.rules.specs.Model.{guest, spare}
 use Rattle.rules.specs.Places.{packed}
 use Rattle.rules.specs.Sound.{sound}
-use Rattle.rules.specs.Samples.{_by_, table, running, resting, leftovers, sampleOf, sample, withFirst, withSecond, withSpares, withIdle, withLastGuest, withLastSpare, withCount, withTable, lone, crowded, overcounted}
+use Rattle.rules.specs.Samples.{_by_, table, running, resting, leftovers, sampleOf, sample, withFirst, withSecond, withSpares, withIdle, withLastGuest, withLastSpare, withCount, withTable, lone, crowded, overcounted, leftAt}
 use Rattle.rules.specs.HeldTable.{counted, lastPlace, sixteen}
 
 -- a guest's place
@@ -66,6 +66,7 @@ pub record SoundHeld : Type 0 where
   pub room : sounds (crowded 63 1 1 65 ∷ crowded 64 1 1 65 ∷ []) ≡ true ∷ false ∷ []
   -- "every deadline is at most 2^44 + now × 2^20", at ticks 0, 1 and 10; a spare's is at most its owner's
   pub bound-at-0 : sounds (lone 0 0 0 17592186044416 ∷ lone 0 0 0 17592186044417 ∷ []) ≡ true ∷ false ∷ []
+  pub bound-of-spare : sounds (leftAt 17592186044416 ∷ leftAt 17592186044417 ∷ []) ≡ true ∷ false ∷ []
   pub bound-at-1 : sounds (lone 1 1 1 17592187092992 ∷ lone 1 1 1 17592187092993 ∷ []) ≡ true ∷ false ∷ []
   pub bound-at-10 : sounds (lone 10 0 0 17592196530176 ∷ lone 10 0 0 17592196530177 ∷ []) ≡ true ∷ false ∷ []
   -- "a spare's deadline is at most its owner's d, and below it where the owner is active"

@@ -60,6 +60,7 @@ pub record CallsStepHeld : Type 0 where
   pub wake-at : wake 10 (of 0 0 10) ≡ of 1 3 22
   pub wake-ahead : wake 10 (of 0 0 11) ≡ of 1 3 23
   pub join-idle : join 10 (of 0 0 11) ≡ of 1 3 23
+  pub join-behind : join 10 (of 0 0 9) ≡ of 1 3 22
   -- "An active guest gets one more waiting job; nothing else changes."
   pub join-active : join 10 (of 1 2 11) ≡ of 2 2 11
   pub join-several : join 10 (of 7 0 9) ≡ of 8 0 9

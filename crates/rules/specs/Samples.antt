@@ -127,3 +127,8 @@ crowded n jobs c d = packed (record { frame = 1; now = 0; guests = guest 1 1 job
 unfoldable pub overcounted : State
 unfolding crowded
 overcounted = let s = crowded 64 0 0 64 in placed s (s .table) (s .guests) 65 (s .spares)
+
+-- one idle guest (1, 1) with this deadline at tick 0, and a spare that it left with the same
+unfoldable pub leftAt : ℕ → State
+unfolding packed
+leftAt d = packed (record { frame = 1; now = 0; guests = guest 1 1 0 0 d 0 0 ∷ []; spares = spare d 0 1 ∷ []; burned = 0; idle = 0 })
