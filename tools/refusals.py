@@ -1,7 +1,8 @@
 """How strong a refusal is: what the checker's log says of a wrong definition or of wrong code.
 
 The classes, from the strongest:
-  row              an error stands in the theorem of rows, `Hold rows`: what the rules compute is not what the document says
+  row              an error stands where a row is computed, in the theorem of `Hold rows` or at a `refl` in that of a named statement: what the
+                   definitions compute is not what is written out
   promise          an error stands in the theorem of a named promise: its stated type is a statement of some crate's specs/
   counterexample   the checker names numbers at which the goal fails: omega's own, for variables alone, with nothing in reach that it does not read;
                    or two values that should be equal, in a statement without variables
@@ -97,15 +98,21 @@ class Theorems:
         theorem = opened[max(above)] if above else None
         return theorem if theorem and not theorem.kind else None
 
-    def strength_of(self, text, theorem):
-        """The class of an error in a theorem."""
+    def is_computed(self, place, crate):
+        """Whether a `refl` stands at a place of a crate's log."""
+        inside = re.search(r"(?:^|/)(proofs/.*\.antt):(\d+):(\d+)", place)
+        lines = common.read(f"crates/{crate}/{inside[1]}").splitlines() if inside and os.path.exists(f"crates/{crate}/{inside[1]}") else []
+        return int(inside[2]) <= len(lines) and lines[int(inside[2]) - 1][int(inside[3]) - 1 :].startswith("refl") if lines else False
+
+    def strength_of(self, text, theorem, computed):
+        """The class of an error in a theorem, at a row that is computed or elsewhere."""
         if SHAPES.search(text.split(" computed as far")[0][:400]) or not FACTS.search(text):
             return SHAPE
         words = theorem.type.split() if theorem else []
         if len(words) == 2 and words[0] == "Hold" and words[1] in self.rows:
             return ROW
         if len(words) == 1 and words[0] in self.statements:
-            return PROMISE
+            return ROW if computed else PROMISE
         return COUNTEREXAMPLE if decided(text, theorem) else GOAL
 
 
@@ -126,5 +133,5 @@ def refusal_of(log, crate, theorems):
             continue
         short = re.sub(r"^.*/(?=(specs|proofs|src)/)", "", place)
         name = re.match(r"`[^`]*`", text)
-        found.append(Refusal(theorems.strength_of(text, theorems.around(place, crate)), short + (f" {name[0]}" if name else ""), text))
+        found.append(Refusal(theorems.strength_of(text, theorems.around(place, crate), theorems.is_computed(place, crate)), short + (f" {name[0]}" if name else ""), text))
     return min(found, key=lambda one: CLASSES.index(one.strength), default=Refusal(NONE, "", "no error in the log"))
