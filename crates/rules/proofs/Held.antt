@@ -11,7 +11,7 @@ use Rattle.rules.specs.Walks.{ticksIn, walkLines, walkState, walkLeft}
 use Rattle.rules.specs.Samples.{sample, withFirst, withSecond, withSpares, withIdle, withLastGuest, withLastSpare, withCount, withTable, lone, row, crowded, overcounted, leftAt}
 use Rattle.rules.specs.HeldTable.{RefusalsHeld, TableHeld}
 use Rattle.rules.specs.HeldSound.{SoundHeld}
-use Rattle.rules.specs.HeldSteps.{ModelHeld, CallsStepHeld, TickHeld, AskHeld, PlacesHeld}
+use Rattle.rules.specs.HeldSteps.{ModelHeld, ArriveDoneHeld, TickHeld, AskHeld, PlacesHeld}
 use Rattle.rules.specs.HeldCalls.{damaged, exchanged, GivenHeld, OutcomesHeld, AnswersHeld}
 use Rattle.rules.specs.HeldWalks.{LinesHeld, WalksHeld}
 use Rattle.rules.specs.HeldImage.{ImageHeld, LengthHeld, WritingHeld}
@@ -129,9 +129,9 @@ model-held =
       sum = refl;
     }
 
-pub calls-step-held : CallsStepHeld
+pub arrive-done-held : ArriveDoneHeld
 unfolding arrive done renewed next serve tick advance ask margin tableOf packed model freshState noState sample
-calls-step-held =
+arrive-done-held =
     record {
       wake-behind = refl;
       wake-at = refl;

@@ -54,7 +54,7 @@ pub record ModelHeld : Type 0 where
   pub sum : tallies sampleModel ≡ 10
 
 -- "Arrive (rules 4 and 5)." and "Done (rule 9)."
-pub record CallsStepHeld : Type 0 where
+pub record ArriveDoneHeld : Type 0 where
   -- "d = the larger of now and its old d, plus T": the old d behind now, at now, ahead
   pub wake-behind : wake 10 (of 0 0 9) ≡ of 1 3 22
   pub wake-at : wake 10 (of 0 0 10) ≡ of 1 3 22
