@@ -17,7 +17,7 @@ use Rattle.rules.specs.Samples.{_by_, running, resting, leftovers, sampl
 use Rattle.rules.specs.HeldTable.{counted}
 use Rattle.rules.specs.HeldSteps.{then}
 
--- the sample with one spare too many counted: not sound, and nothing else is wrong with it
+-- the sample with 65 spares counted: not sound
 unfoldable pub damaged : State
 unfolding withCount
 damaged = withCount 65
