@@ -1,10 +1,11 @@
 -- The rows of the promises' words hold: by computing, and where a row is a statement, by its numbers.
 use mathlib.Core.Path.{_≡_, refl}
 use mathlib.Core.List.{[], _∷_}
-use Prim.Native.Nat.{ℕ, zero, suc, _<_}
+use mathlib.Core.Bool.{true}
+use Prim.Native.Nat.{ℕ, zero, suc, _≤_, _<_}
 use native.Mathlib.Omega.{arith}
 use Rattle.rules.specs.Table.{goodTable}
-use Rattle.rules.specs.Model.{leftOf, deadlineOf, guestAt, capacityOf, dueOf, spareAt, spare}
+use Rattle.rules.specs.Model.{active, leftOf, deadlineOf, guestAt, capacityOf, dueOf, spareAt, spare}
 use Rattle.rules.specs.Steps.{onOwn, arrive, done, renewed, next, serve, tick, advance, ask}
 use Rattle.rules.specs.Places.{model, packed}
 use Rattle.rules.specs.Sound.{inRange, sound}
@@ -32,6 +33,10 @@ joining-held =
       of-a-portion = refl;
     }
 
+-- a renewed budget has another deadline
+renewed-apart : onOwn 0 32 0 ≡ onOwn 0 20 0 → ⊥
+renewed-apart e = let d : _≡_ {A = ℕ} 32 20 = cc in omega arith
+
 pub spans-held : SpansHeld
 unfolding renewed next serve tick advance ask
 spans-held =
@@ -41,7 +46,7 @@ spans-held =
       within-own = (omega arith, λ h. omega arith);
       within-spare = (omega arith, λ h. omega arith);
       within-burning = (omega arith, λ h. omega arith);
-      over = λ e. let d : _≡_ {A = ℕ} 32 20 = cc in omega arith;
+      over = renewed-apart;
       not-over = λ h. h refl;
     }
 
@@ -71,11 +76,19 @@ spare-ahead : (k : ℕ) → 0 < capacityOf (spareAt k (spare 11 0 1 ∷ [])) →
 spare-ahead zero h = omega arith
 spare-ahead (suc k) h = absurd (omega arith)
 
+-- of two guests with deadline 11, whoever is active has it
+all-at-11 : (k : ℕ) → active (guestAt k (of 1 1 11 ∷ of 1 2 11 ∷ [])) ≡ true → 11 ≤ deadlineOf (guestAt k (of 1 1 11 ∷ of 1 2 11 ∷ []))
+all-at-11 zero h = omega arith
+all-at-11 (suc zero) h = omega arith
+all-at-11 (suc (suc k)) h = absurd (let z : _≡_ {A = ℕ} 0 1 = cc in omega arith)
+
 pub words-held : WordsHeld
 unfolding bit actives
 words-held =
     record {
       can-run = refl;
+      runs-first = record { place = omega arith; is-active = refl; smallest = all-at-11; lowest = λ k below is. absurd (omega (arith, below)) };
+      not-first = λ r. let lower : 11 < 11 = r .lowest 0 (omega arith) refl in omega arith;
       none-by = (tt, omega arith, λ h. omega arith);
       ahead = (budget-ahead, spare-ahead);
       budget-overdue = λ h. let late : 11 < 11 = h .0 0 (omega arith) in omega arith;

@@ -15,7 +15,7 @@ use Rattle.rules.specs.HeldSteps.{four, of, at10, then}
 use Rattle.promises.specs.Joining.{joined, walkedTo, leftAfter, uses, ticksOf}
 use Rattle.promises.specs.Spans.{shorter, Within, whose, Ends}
 use Rattle.promises.specs.Runs.{arrival, completion, oneTick, happen, afterAll, events, passed, ownTick, lentTick, ownTicks, lentTicks}
-use Rattle.promises.specs.Promises.{canRun, NoneBy, NothingOverdue, bit, actives}
+use Rattle.promises.specs.Promises.{RunsFirst, canRun, NoneBy, NothingOverdue, bit, actives}
 use Rattle.promises.specs.Histories.{walkCall}
 
 -- walks one after the other: a guest (1, 1) has a portion in each tick, and a walk answers 64
@@ -64,6 +64,9 @@ pub record RunsHeld : Type 0 where
 pub record WordsHeld : Type 0 where
   -- active, with budget left
   pub can-run : map canRun (of 0 0 9 ∷ of 1 0 9 ∷ of 1 1 9 ∷ of 2 2 9 ∷ []) ≡ false ∷ false ∷ true ∷ true ∷ []
+  -- of two equal guests the lower one runs first, and the other does not
+  pub runs-first : RunsFirst (of 1 1 11 ∷ of 1 2 11 ∷ []) 0
+  pub not-first : RunsFirst (of 1 1 11 ∷ of 1 2 11 ∷ []) 1 → ⊥
   -- no spare by 4: none at all, one at 5, and not one at 4
   pub none-by : NoneBy 4 [] × NoneBy 4 (spare 5 0 1 ∷ []) × (NoneBy 4 (spare 4 0 1 ∷ []) → ⊥)
   -- a budget of 1 and a spare of 1 with deadline 11 are not overdue at tick 10, and are at tick 11
