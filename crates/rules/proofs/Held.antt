@@ -146,6 +146,7 @@ arrive-done-held =
       finish-two = refl;
       finish-last = refl;
       finish-idle = refl;
+      finish-idle-left = refl;
       leave-several = refl;
       leave-last = refl;
       leave-one = refl;
@@ -168,6 +169,7 @@ tick-held =
       renew-spent = refl;
       renew-left = refl;
       renew-idle = refl;
+      renew-idle-left = refl;
       renew-each = refl;
       is-ready = refl;
       is-idle = refl;
@@ -188,6 +190,7 @@ tick-held =
       spend-two = refl;
       spend-last = refl;
       spend-none = refl;
+      spend-empty = refl;
       on-own = refl;
       on-spare = refl;
       tick-own = refl;
@@ -329,6 +332,7 @@ walks-held =
       walked-refused = record { answer = refl; state = refl; left = refl; count = refl; portions = refl };
       portions = refl;
       left = refl;
+      left-at-the-end = refl;
       reached = refl;
     }
 

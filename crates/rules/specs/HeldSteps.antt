@@ -73,6 +73,7 @@ pub record ArriveDoneHeld : Type 0 where
   -- "If none remain .. c becomes 0"
   pub finish-last : finish (of 1 2 11) ≡ of 0 0 11
   pub finish-idle : finish (of 0 0 11) ≡ of 0 0 11
+  pub finish-idle-left : finish (of 0 2 11) ≡ of 0 2 11
   -- "If none remain, a c above 0 becomes a spare with the guest's d .. With c = 0 no spare is made."
   pub leave-several : leave 0 (of 2 2 11) [] ≡ []
   pub leave-last : leave 5 (of 1 2 11) [] ≡ spare 11 5 2 ∷ []
@@ -96,6 +97,7 @@ pub record TickHeld : Type 0 where
   pub renew-spent : renew (of 2 0 11) ≡ of 2 3 23
   pub renew-left : renew (of 2 1 11) ≡ of 2 1 11
   pub renew-idle : renew (of 0 0 11) ≡ of 0 0 11
+  pub renew-idle-left : renew (of 0 2 11) ≡ of 0 2 11
   pub renew-each : renewed (at10 (of 0 0 11 ∷ of 1 0 11 ∷ of 1 1 11 ∷ of 1 0 13 ∷ []) []) ≡ at10 (of 0 0 11 ∷ of 1 3 23 ∷ of 1 1 11 ∷ of 1 3 25 ∷ []) []
   -- step 2, "The active guest with the smallest d runs; equal deadlines, the lowest number."
   pub is-ready : ready 4 (of 2 1 11) ≡ runs 4 11 1
@@ -120,6 +122,7 @@ pub record TickHeld : Type 0 where
   pub spend-two : spend (spare 12 3 2 ∷ []) ≡ spare 12 3 1 ∷ []
   pub spend-last : spend (spare 12 3 1 ∷ spare 13 0 1 ∷ []) ≡ spare 13 0 1 ∷ []
   pub spend-none : spend [] ≡ []
+  pub spend-empty : spend (spare 12 3 0 ∷ spare 13 0 1 ∷ []) ≡ spare 13 0 1 ∷ []
   -- "otherwise the guest's c loses 1", and each of the four tallies
   pub on-own : runOwn (guest 3 12 2 2 30 3 1) ≡ guest 3 12 2 1 30 4 1
   pub on-spare : runLent (guest 3 12 2 2 30 3 1) ≡ guest 3 12 2 2 30 3 2

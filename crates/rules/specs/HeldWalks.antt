@@ -80,4 +80,5 @@ pub record WalksHeld : Type 0 where
   -- a walk answers 64 portions: a guest (1, 1) has one in each tick
   pub portions : length (walkLines 65 (lone 0 1 1 1)) ≡ 64
   pub left : (walkLeft 64 (lone 0 1 1 1) ∷ walkLeft 65 (lone 0 1 1 1) ∷ []) ≡ 0 ∷ 1 ∷ []
+  pub left-at-the-end : walkLeft 65 (lone 1099511627711 1 1 1) ≡ 1
   pub reached : walkState 65 (lone 0 1 1 1) .now ≡ 64
