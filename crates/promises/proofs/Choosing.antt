@@ -1,5 +1,5 @@
 -- The choice: who runs has the smallest deadline, and the lowest number among equals; and what the tick then uses.
-use mathlib.Core.Path.{_≡_, refl, sym}
+use mathlib.Core.Path.{_≡_, refl, sym, ap}
 use mathlib.Core.Bool.{true, false, cond}
 use mathlib.Core.List.{List, [], _∷_}
 use Prim.Native.Nat.{ℕ, zero, suc, _+_, _≤_, _<_}
@@ -7,18 +7,18 @@ use native.Mathlib.Nat.{add-zero}
 use native.Mathlib.Omega.{arith}
 use Rattle.laws.proofs.Cases.{never, by-leb, by-index}
 use Rattle.rules.specs.Model.{Guest, guest, Spare, spare, leftOf, deadlineOf, active, guestAt}
-use Rattle.rules.specs.Steps.{Pick, nobody, runs, ready, sooner, earliest, onOwn, onSpare, portion, next}
+use Rattle.rules.specs.Steps.{Pick, nobody, picked, ready, sooner, earliest, ownBudget, spareOf, runs, limited, portion, portionFor, next}
 use Rattle.promises.specs.Promises.{RunsFirst, NobodyActive, Uses, NextUses}
 
 -- what a pick from guests numbered from i says of them
 abbrev Leads : ℕ → List Guest → Pick → Type 0
 Leads i gs nobody = NobodyActive gs
-Leads i gs (runs n d c) = (j : ℕ) × (n ≡ i + j) × RunsFirst gs j × (d ≡ deadlineOf (guestAt j gs)) × (c ≡ leftOf (guestAt j gs))
+Leads i gs (picked n d c) = (j : ℕ) × (n ≡ i + j) × RunsFirst gs j × (d ≡ deadlineOf (guestAt j gs)) × (c ≡ leftOf (guestAt j gs))
 
 -- a pick from the guests behind an idle one
 behind-idle : (i : ℕ) (g : Guest) (gs : List Guest) (p : Pick) → active g ≡ false → Leads (suc i) gs p → Leads i (g ∷ gs) p
 behind-idle i g gs nobody h l = by-index (λ k. active (guestAt k (g ∷ gs)) ≡ false) h l
-behind-idle i g gs (runs n d c) h l =
+behind-idle i g gs (picked n d c) h l =
     let r = l .2 in (
       suc (l .0),
       omega (arith, l .1),
@@ -33,7 +33,7 @@ behind-idle i g gs (runs n d c) h l =
     )
 
 -- the first guest, where it is active and no other is sooner
-first-leads : (i : ℕ) (g : Guest) (gs : List Guest) → active g ≡ true → ((k : ℕ) → active (guestAt k gs) ≡ true → deadlineOf g ≤ deadlineOf (guestAt k gs)) → Leads i (g ∷ gs) (runs i (deadlineOf g) (leftOf g))
+first-leads : (i : ℕ) (g : Guest) (gs : List Guest) → active g ≡ true → ((k : ℕ) → active (guestAt k gs) ≡ true → deadlineOf g ≤ deadlineOf (guestAt k gs)) → Leads i (g ∷ gs) (picked i (deadlineOf g) (leftOf g))
 first-leads i g gs h f = (
   0,
   sym (add-zero i),
@@ -48,7 +48,7 @@ first-leads i g gs h f = (
 )
 
 -- a later guest that is sooner than the first
-later-leads : (i : ℕ) (g : Guest) (gs : List Guest) (n d c : ℕ) → d < deadlineOf g → Leads (suc i) gs (runs n d c) → Leads i (g ∷ gs) (runs n d c)
+later-leads : (i : ℕ) (g : Guest) (gs : List Guest) (n d c : ℕ) → d < deadlineOf g → Leads (suc i) gs (picked n d c) → Leads i (g ∷ gs) (picked n d c)
 later-leads i g gs n d c h l =
     let r = l .2 in
     let e = l .3 in (
@@ -68,9 +68,9 @@ later-leads i g gs n d c h l =
 sooner-leads : (i : ℕ) (g : Guest) (gs : List Guest) (q : Pick) → Leads (suc i) gs q → Leads i (g ∷ gs) (sooner (ready i g) q)
 sooner-leads i (guest Q T zero c d own lent) gs q l = behind-idle i (guest Q T 0 c d own lent) gs q refl l
 sooner-leads i (guest Q T (suc jobs) c d own lent) gs nobody l = first-leads i (guest Q T (suc jobs) c d own lent) gs refl (λ k a. never a (l k))
-sooner-leads i (guest Q T (suc jobs) c d own lent) gs (runs n e b) l =
+sooner-leads i (guest Q T (suc jobs) c d own lent) gs (picked n e b) l =
     let g = guest Q T (suc jobs) c d own lent in
-    by-leb (λ t. Leads i (g ∷ gs) (cond t (runs i d c) (runs n e b))) d e
+    by-leb (λ t. Leads i (g ∷ gs) (cond t (picked i d c) (picked n e b))) d e
     (λ h. first-leads i g gs refl (λ k a. omega (arith, l .3, l .2 .smallest k a)))
     (λ h. later-leads i g gs n e b h l)
 
@@ -79,20 +79,20 @@ earliest-leads i [] = λ k. refl
 earliest-leads i (g ∷ gs) = sooner-leads i g gs (earliest (suc i) gs) (earliest-leads (suc i) gs)
 
 -- a pick from guests numbered from 0
-settled : (gs : List Guest) (n d c : ℕ) → Leads 0 gs (runs n d c) → RunsFirst gs n × (d ≡ deadlineOf (guestAt n gs)) × (c ≡ leftOf (guestAt n gs))
+settled : (gs : List Guest) (n d c : ℕ) → Leads 0 gs (picked n d c) → RunsFirst gs n × (d ≡ deadlineOf (guestAt n gs)) × (c ≡ leftOf (guestAt n gs))
 settled gs n d c l =
     let e : n ≡ l .0 = omega (arith, l .1) in
     rw e (l .2, l .3, l .4)
 
-portion-uses : (gs : List Guest) (ss : List Spare) (p : Pick) → Leads 0 gs p → Uses gs ss (portion p ss)
-portion-uses gs [] nobody l = (l, refl)
-portion-uses gs (spare d owner c ∷ ss) nobody l = (l, (ss, refl))
-portion-uses gs [] (runs n d c) l = let r = settled gs n d c l in (r .0, r .1, r .2, tt)
-portion-uses gs (spare e owner b ∷ ss) (runs n d c) l =
+portion-uses : (gs : List Guest) (ss : List Spare) (p : Pick) → Leads 0 gs p → Uses gs ss (portionFor p ss)
+portion-uses gs [] nobody l = (l, refl, refl, refl)
+portion-uses gs (spare d owner c ∷ ss) nobody l = (l, (c, (ss, refl), refl))
+portion-uses gs [] (picked n d c) l = let r = settled gs n d c l in (r .0, r .1, ap limited (r .2), tt)
+portion-uses gs (spare e owner b ∷ ss) (picked n d c) l =
     let r = settled gs n d c l in
-    by-leb (λ t. Uses gs (spare e owner b ∷ ss) (cond t (onSpare n owner e b) (onOwn n d c))) e d
-    (λ h. (r .0, (ss, refl), omega (arith, r .1)))
-    (λ h. (r .0, r .1, r .2, h))
+    by-leb (λ t. Uses gs (spare e owner b ∷ ss) (cond t (portion (runs n (spareOf owner)) e (limited b)) (portion (runs n ownBudget) d (limited c)))) e d
+    (λ h. (r .0, (b, (ss, refl), refl), omega (arith, r .1)))
+    (λ h. (r .0, r .1, ap limited (r .2), h))
 
 pub next-uses : NextUses
 unfolding next

@@ -1,12 +1,12 @@
 -- The rows of the promises' words hold: by computing, and where a row is a statement, by its numbers.
-use mathlib.Core.Path.{_≡_, refl}
+use mathlib.Core.Path.{_≡_, refl, ap}
 use mathlib.Core.List.{[], _∷_}
 use mathlib.Core.Bool.{true}
 use Prim.Native.Nat.{ℕ, zero, suc, _≤_, _<_}
 use native.Mathlib.Omega.{arith}
 use Rattle.rules.specs.Table.{goodTable}
 use Rattle.rules.specs.Model.{active, leftOf, deadlineOf, guestAt, capacityOf, dueOf, spareAt, spare}
-use Rattle.rules.specs.Steps.{onOwn, arrive, done, renewed, next, serve, tick, advance, ask}
+use Rattle.rules.specs.Steps.{arrive, done, ownBudget, Use, runs, renewed, next, serve, tick, advance, ask}
 use Rattle.rules.specs.Places.{model, packed}
 use Rattle.rules.specs.Sound.{inRange, sound}
 use Rattle.rules.specs.Calls.{stateAfter}
@@ -15,7 +15,6 @@ use Rattle.rules.specs.Walks.{ticksIn, walkLines, walkState, walkLeft}
 use Rattle.rules.specs.Samples.{sample, lone}
 use Rattle.rules.specs.HeldSteps.{of}
 use Rattle.promises.specs.Joining.{joined, walkedTo, leftAfter, uses}
-use Rattle.promises.specs.Spans.{whose}
 use Rattle.promises.specs.Runs.{afterAll, eventsOf, events, counted}
 use Rattle.promises.specs.Promises.{bit, actives}
 use Rattle.promises.specs.Held.{JoiningHeld, SpansHeld, RunsHeld, WordsHeld}
@@ -34,18 +33,17 @@ joining-held =
     }
 
 -- a renewed budget has another deadline
-renewed-apart : onOwn 0 32 0 ≡ onOwn 0 20 0 → ⊥
-renewed-apart e = let d : _≡_ {A = ℕ} 32 20 = cc in omega arith
+renewed-apart : _≡_ {A = Use × ℕ} (runs 0 ownBudget, 32) (runs 0 ownBudget, 20) → ⊥
+renewed-apart e = let d : _≡_ {A = ℕ} 32 20 = ap (λ (w : Use × ℕ). w .1) e in omega arith
 
 pub spans-held : SpansHeld
 unfolding renewed next serve tick advance ask
 spans-held =
     record {
-      fewer = refl;
-      same = refl;
-      within-own = (omega arith, λ h. omega arith);
-      within-spare = (omega arith, λ h. omega arith);
-      within-burning = (omega arith, λ h. omega arith);
+      fewer-left = refl;
+      same-portion = refl;
+      without-span = refl;
+      within = (omega arith, λ h. omega arith, tt);
       over = renewed-apart;
       not-over = λ h. h refl;
     }

@@ -2,18 +2,18 @@
 use mathlib.Core.Path.{_≡_, refl, ap, sym, _∙_}
 use mathlib.Core.Bool.{true, false, cond, _&&_, _||_}
 use mathlib.Core.List.{List, [], _∷_, map}
-use Prim.Native.Nat.{ℕ, zero, suc, _+_, _≤_, _<_, max}
+use Prim.Native.Nat.{ℕ, zero, suc, _+_, _-_, _≤_, _<_, max}
 use native.Mathlib.Omega.{arith}
 use lib.Dec.{ltb, eqb}
 use lib.ListN.{length, length-map}
 use borrow.Author.Tests.{ltb-false, eqb-false, lt-ltb, eq-eqb}
 use Rattle.laws.specs.Lists.{total, changed, padded}
-use Rattle.laws.proofs.Cases.{and-both, and-intro, or-neither, never, by-test, by-ltb}
+use Rattle.laws.proofs.Cases.{and-both, and-intro, or-neither, never, by-test, by-leb, by-ltb}
 use Rattle.laws.proofs.Elements.{All, none, each, all-at, all-map, all-imp, all-changed, length-changed, map-changed, map-same, total-map, total-changed, at-changed, at-map, at-same}
 use Rattle.rules.specs.Limits.{guestPlaces, sparePlaces, mostJobs, lastTick, deadlineCap, deadlineBound}
 use Rattle.rules.specs.Table.{noEntry, goodTable}
 use Rattle.rules.specs.Model.{Guest, guest, Spare, spare, Model, jobsOf, deadlineOf, talliesOf, dueOf, ownerOf, active, idleGuest, noGuest, guestAt, bitOf, activeCount, occupied, tallies}
-use Rattle.rules.specs.Steps.{wake, join, arrive, before, insertSpare, finish, leave, done, renew, renewed, Portion, onOwn, onSpare, burning, nothing, next, spend, runOwn, runLent, later, charge, serve, tick}
+use Rattle.rules.specs.Steps.{wake, join, arrive, before, insertSpare, finish, leave, done, renew, renewed, ownBudget, spareOf, Use, runs, burns, nothing, Portion, portion, useOf, next, spend, ran, later, charge, serve, tick}
 use Rattle.rules.specs.Places.{entryOf, tableOf}
 use Rattle.rules.specs.Sound.{rising}
 use Rattle.promises.specs.Promises.{Uses}
@@ -217,20 +217,19 @@ done-sane i m h s =
 
 -- ---- who runs is a guest
 
-abbrev pub Names : ℕ → Portion → Type 0
-Names n (onOwn i d span) = i < n
-Names n (onSpare i owner d span) = i < n
-Names n (burning owner d span) = Unit {0}
+abbrev pub Names : ℕ → Use → Type 0
+Names n (runs i source) = i < n
+Names n (burns owner) = Unit {0}
 Names n nothing = Unit {0}
 
-uses-names : (gs : List Guest) (ss : List Spare) (p : Portion) → Uses gs ss p → Names (length gs) p
-uses-names gs ss (onOwn i d span) u = u .0 .place
-uses-names gs ss (onSpare i owner d span) u = u .0 .place
-uses-names gs ss (burning owner d span) u = tt
-uses-names gs ss nothing u = tt
+uses-names : (gs : List Guest) (ss : List Spare) (p : Portion) → Uses gs ss p → Names (length gs) (useOf p)
+uses-names gs ss (portion (runs i ownBudget) d span) u = u .0 .place
+uses-names gs ss (portion (runs i (spareOf owner)) d span) u = u .0 .place
+uses-names gs ss (portion (burns owner) d span) u = tt
+uses-names gs ss (portion nothing d span) u = tt
 
 -- whoever the next tick runs is one of the guests
-pub next-names : (m : Model) → Names (length (m .guests)) (next m)
+pub next-names : (m : Model) → Names (length (m .guests)) (useOf (next m))
 next-names m = uses-names (m .guests) (m .spares) (next m) (next-uses m)
 
 -- ---- one tick
@@ -262,67 +261,41 @@ good-renew now (guest Q T (suc jobs) zero d own lent) p =
     record { served = p .served; range = omega (arith, p .range); early = omega (arith, p .early, p .served) }
 good-renew now (guest Q T (suc jobs) (suc c) d own lent) p = record { served = p .served; range = p .range; early = omega (arith, p .early) }
 
-good-own : (bound : ℕ) (g : Guest) → GuestGood bound g → GuestGood bound (runOwn g)
-good-own bound (guest Q T zero c d own lent) p = record { served = p .served; range = omega (arith, p .range); early = p .early }
-good-own bound (guest Q T (suc jobs) c d own lent) p = record { served = p .served; range = omega (arith, p .range); early = p .early }
+-- ---- to run changes neither the entry nor who is active, covers as much, and counts each tick
 
-good-lent : (bound : ℕ) (g : Guest) → GuestGood bound g → GuestGood bound (runLent g)
-good-lent bound (guest Q T zero c d own lent) p = record { served = p .served; range = p .range; early = p .early }
-good-lent bound (guest Q T (suc jobs) c d own lent) p = record { served = p .served; range = p .range; early = p .early }
+pub entry-ran : (n k : ℕ) (g : Guest) → entryOf (ran n k g) ≡ entryOf g
+entry-ran n k (guest Q T jobs c d own lent) = refl
 
--- to run changes neither the entry nor who is active, covers as much, and counts one tick
-pub record Runs (f : Guest → Guest) : Type 0 where
-  pub entry : (g : Guest) → entryOf (f g) ≡ entryOf g
-  pub bit : (g : Guest) → bitOf (f g) ≡ bitOf g
-  pub covers : (g : Guest) (x : Spare) → Covers g x → Covers (f g) x
-  pub count : (g : Guest) → talliesOf (f g) ≡ talliesOf g + 1
-  pub good : (bound : ℕ) (g : Guest) → GuestGood bound g → GuestGood bound (f g)
+pub bit-ran : (n k : ℕ) (g : Guest) → bitOf (ran n k g) ≡ bitOf g
+bit-ran n k (guest Q T zero c d own lent) = refl
+bit-ran n k (guest Q T (suc jobs) c d own lent) = refl
 
-pub own-runs : Runs runOwn
-own-runs = record { entry = entry; bit = bit; covers = covers; count = count; good = good-own }
-  where
-    entry : (g : Guest) → entryOf (runOwn g) ≡ entryOf g
-    entry (guest Q T jobs c d own lent) = refl
+covers-ran : (n k : ℕ) (g : Guest) (x : Spare) → Covers g x → Covers (ran n k g) x
+covers-ran n k (guest Q T zero c d own lent) (spare e owner b) p = p
+covers-ran n k (guest Q T (suc jobs) c d own lent) (spare e owner b) p = p
 
-    bit : (g : Guest) → bitOf (runOwn g) ≡ bitOf g
-    bit (guest Q T zero c d own lent) = refl
-    bit (guest Q T (suc jobs) c d own lent) = refl
+pub tallies-ran : (n k : ℕ) (g : Guest) → talliesOf (ran n k g) ≡ talliesOf g + (n + k)
+tallies-ran n k (guest Q T jobs c d own lent) = omega arith
 
-    covers : (g : Guest) (x : Spare) → Covers g x → Covers (runOwn g) x
-    covers (guest Q T zero c d own lent) (spare e owner b) p = p
-    covers (guest Q T (suc jobs) c d own lent) (spare e owner b) p = p
+good-ran : (n k bound : ℕ) (g : Guest) → GuestGood bound g → GuestGood bound (ran n k g)
+good-ran n k bound (guest Q T zero c d own lent) p = record { served = p .served; range = omega (arith, p .range); early = p .early }
+good-ran n k bound (guest Q T (suc jobs) c d own lent) p = record { served = p .served; range = omega (arith, p .range); early = p .early }
 
-    count : (g : Guest) → talliesOf (runOwn g) ≡ talliesOf g + 1
-    count (guest Q T jobs c d own lent) = omega arith
+-- ---- the first spare loses n, and at 0 is removed
 
-pub lent-runs : Runs runLent
-lent-runs = record { entry = entry; bit = bit; covers = covers; count = count; good = good-lent }
-  where
-    entry : (g : Guest) → entryOf (runLent g) ≡ entryOf g
-    entry (guest Q T jobs c d own lent) = refl
+-- what holds of the spares behind the first, and of the first with less in it
+pub spend-either : (P : List Spare → Type 0) (n d owner c : ℕ) (ss : List Spare) → P ss → (n < c → P (spare d owner (c - n) ∷ ss)) → P (spend n (spare d owner c ∷ ss))
+spend-either P n d owner c ss p q = by-leb (λ t. P (cond t ss (spare d owner (c - n) ∷ ss))) c n (λ h. p) (λ h. q h)
 
-    bit : (g : Guest) → bitOf (runLent g) ≡ bitOf g
-    bit (guest Q T zero c d own lent) = refl
-    bit (guest Q T (suc jobs) c d own lent) = refl
+covers-less : (n d owner c : ℕ) (g : Guest) → n < c → Covers g (spare d owner c) → Covers g (spare d owner (c - n))
+covers-less n d owner c (guest Q T zero b e own lent) h p = omega arith
+covers-less n d owner c (guest Q T (suc jobs) b e own lent) h p = omega arith
 
-    covers : (g : Guest) (x : Spare) → Covers g x → Covers (runLent g) x
-    covers (guest Q T zero c d own lent) (spare e owner b) p = p
-    covers (guest Q T (suc jobs) c d own lent) (spare e owner b) p = p
-
-    count : (g : Guest) → talliesOf (runLent g) ≡ talliesOf g + 1
-    count (guest Q T jobs c d own lent) = omega arith
-
--- the first spare loses 1
-covers-less : (g : Guest) (d owner c : ℕ) → Covers g (spare d owner (suc (suc c))) → Covers g (spare d owner (suc c))
-covers-less (guest Q T zero b e own lent) d owner c p = omega arith
-covers-less (guest Q T (suc jobs) b e own lent) d owner c p = omega arith
-
-spend-good : (bound : ℕ) (gs : List Guest) {ss : List Spare} → All (SpareGood bound gs) ss → All (SpareGood bound gs) (spend ss)
-spend-good bound gs none = none
-spend-good bound gs (each {x = spare d owner zero} p ps) = ps
-spend-good bound gs (each {x = spare d owner (suc zero)} p ps) = ps
-spend-good bound gs (each {x = spare d owner (suc (suc c))} p ps) =
-    each {x = spare d owner (suc c)} (record { owned = p .owned; covered = covers-less (guestAt owner gs) d owner c (p .covered); early = p .early }) ps
+spend-good : (n bound : ℕ) (gs : List Guest) {ss : List Spare} → All (SpareGood bound gs) ss → All (SpareGood bound gs) (spend n ss)
+spend-good n bound gs none = none
+spend-good n bound gs (each {x = spare d owner c} {xs = ss} p ps) =
+    spend-either (All (SpareGood bound gs)) n d owner c ss ps
+    (λ h. each {x = spare d owner (c - n)} (record { owned = p .owned; covered = covers-less n d owner c (guestAt owner gs) h (p .covered); early = p .early }) ps)
 
 rising-tail : (x : Spare) (ss : List Spare) → rising (x ∷ ss) ≡ true → rising ss ≡ true
 rising-tail x [] r = refl
@@ -332,17 +305,13 @@ rising-less : (d owner b c : ℕ) (ss : List Spare) → rising (spare d owner b 
 rising-less d owner b c [] r = refl
 rising-less d owner b c (spare e k a ∷ ss) r = r
 
-spend-rising : (ss : List Spare) → rising ss ≡ true → rising (spend ss) ≡ true
-spend-rising [] r = refl
-spend-rising (spare d owner zero ∷ ss) r = rising-tail (spare d owner 0) ss r
-spend-rising (spare d owner (suc zero) ∷ ss) r = rising-tail (spare d owner 1) ss r
-spend-rising (spare d owner (suc (suc c)) ∷ ss) r = rising-less d owner (suc (suc c)) (suc c) ss r
+spend-rising : (n : ℕ) (ss : List Spare) → rising ss ≡ true → rising (spend n ss) ≡ true
+spend-rising n [] r = refl
+spend-rising n (spare d owner c ∷ ss) r = spend-either (λ l. rising l ≡ true) n d owner c ss (rising-tail (spare d owner c) ss r) (λ h. rising-less d owner c (c - n) ss r)
 
-spend-length : (ss : List Spare) → length (spend ss) ≤ length ss
-spend-length [] = omega arith
-spend-length (spare d owner zero ∷ ss) = omega arith
-spend-length (spare d owner (suc zero) ∷ ss) = omega arith
-spend-length (spare d owner (suc (suc c)) ∷ ss) = omega arith
+spend-length : (n : ℕ) (ss : List Spare) → length (spend n ss) ≤ length ss
+spend-length n [] = omega arith
+spend-length n (spare d owner c ∷ ss) = spend-either (λ l. length l ≤ suc (length ss)) n d owner c ss (omega arith) (λ h. omega arith)
 
 -- the facts between step 1 and step 3, with the bound of the tick's end
 record Renewed (m : Model) : Type 0 where
@@ -369,25 +338,25 @@ renewed-sane m h s =
     }
 
 -- a guest runs, on its own budget or on a spare
-run-sane : (f : Guest → Guest) → Runs f → (i : ℕ) (m : Model) → i < length (m .guests) → (ss : List Spare) → length ss ≤ length (m .spares) → rising ss ≡ true → All (SpareGood (deadlineBound (m .now + 1)) (m .guests)) ss → Renewed m → Sane (later m (changed i f (m .guests)) ss (m .burned) (m .idle))
-run-sane f r i m h ss l o ps s =
+run-sane : (n k : ℕ) → n + k ≡ 1 → (i : ℕ) (m : Model) → i < length (m .guests) → (ss : List Spare) → length ss ≤ length (m .spares) → rising ss ≡ true → All (SpareGood (deadlineBound (m .now + 1)) (m .guests)) ss → Renewed m → Sane (later 1 m (changed i (ran n k) (m .guests)) ss (m .burned) (m .idle))
+run-sane n k one i m h ss l o ps s =
     let gs = m .guests in
     let g = guestAt i gs in
     record {
-      table = rw (table-same m (later m (changed i f gs) ss (m .burned) (m .idle)) refl (map-changed entryOf f (r .entry) i gs)) (s .table);
+      table = rw (table-same m (later 1 m (changed i (ran n k) gs) ss (m .burned) (m .idle)) refl (map-changed entryOf (ran n k) (entry-ran n k) i gs)) (s .table);
       time = s .time;
-      guests = all-changed noGuest i f (s .guests) (λ p. r .good (deadlineBound (m .now + 1)) g p);
-      spares = spares-changed (deadlineBound (m .now + 1)) i f gs (r .covers g) ps;
-      tally = omega (arith, s .tally, total-changed noGuest talliesOf i f gs h, r .count g);
+      guests = all-changed noGuest i (ran n k) (s .guests) (λ p. good-ran n k (deadlineBound (m .now + 1)) g p);
+      spares = spares-changed (deadlineBound (m .now + 1)) i (ran n k) gs (covers-ran n k g) ps;
+      tally = omega (arith, s .tally, total-changed noGuest talliesOf i (ran n k) gs h, tallies-ran n k g);
       order = o;
-      room = omega (arith, s .room, total-changed noGuest bitOf i f gs h, r .bit g);
+      room = omega (arith, s .room, total-changed noGuest bitOf i (ran n k) gs h, bit-ran n k g);
     }
 
 -- nobody runs
-rest-sane : (m : Model) (ss : List Spare) (burned idle : ℕ) → length ss ≤ length (m .spares) → rising ss ≡ true → All (SpareGood (deadlineBound (m .now + 1)) (m .guests)) ss → burned + idle ≡ m .burned + m .idle + 1 → Renewed m → Sane (later m (m .guests) ss burned idle)
+rest-sane : (m : Model) (ss : List Spare) (burned idle : ℕ) → length ss ≤ length (m .spares) → rising ss ≡ true → All (SpareGood (deadlineBound (m .now + 1)) (m .guests)) ss → burned + idle ≡ m .burned + m .idle + 1 → Renewed m → Sane (later 1 m (m .guests) ss burned idle)
 rest-sane m ss burned idle l o ps e s =
     record {
-      table = rw (table-same m (later m (m .guests) ss burned idle) refl refl) (s .table);
+      table = rw (table-same m (later 1 m (m .guests) ss burned idle) refl refl) (s .table);
       time = s .time;
       guests = s .guests;
       spares = ps;
@@ -396,14 +365,22 @@ rest-sane m ss burned idle l o ps e s =
       room = omega (arith, s .room);
     }
 
-charge-sane : (m : Model) (p : Portion) → Names (length (m .guests)) p → Renewed m → Sane (charge p m)
-charge-sane m (onOwn i d span) h s = run-sane runOwn own-runs i m h (m .spares) (omega arith) (s .order) (s .spares) s
-charge-sane m (onSpare i owner d span) h s =
-    run-sane runLent lent-runs i m h (spend (m .spares)) (spend-length (m .spares)) (spend-rising (m .spares) (s .order)) (spend-good _ (m .guests) (s .spares)) s
-charge-sane m (burning owner d span) h s =
-    rest-sane m (spend (m .spares)) (m .burned + 1) (m .idle) (spend-length (m .spares)) (spend-rising (m .spares) (s .order)) (spend-good _ (m .guests) (s .spares)) (omega arith) s
-charge-sane m nothing h s = rest-sane m (m .spares) (m .burned) (m .idle + 1) (omega arith) (s .order) (s .spares) (omega arith) s
+module _ (m : Model) (s : Renewed m) where
+  spent-length : length (spend 1 (m .spares)) ≤ length (m .spares)
+  spent-length = spend-length 1 (m .spares)
+
+  spent-rising : rising (spend 1 (m .spares)) ≡ true
+  spent-rising = spend-rising 1 (m .spares) (s .order)
+
+  spent-good : All (SpareGood (deadlineBound (m .now + 1)) (m .guests)) (spend 1 (m .spares))
+  spent-good = spend-good 1 _ (m .guests) (s .spares)
+
+  charge-sane : (u : Use) → Names (length (m .guests)) u → Sane (charge 1 u m)
+  charge-sane (runs i ownBudget) h = run-sane 1 0 refl i m h (m .spares) (omega arith) (s .order) (s .spares) s
+  charge-sane (runs i (spareOf owner)) h = run-sane 0 1 refl i m h (spend 1 (m .spares)) spent-length spent-rising spent-good s
+  charge-sane (burns owner) h = rest-sane m (spend 1 (m .spares)) (m .burned + 1) (m .idle) spent-length spent-rising spent-good (omega arith) s
+  charge-sane nothing h = rest-sane m (m .spares) (m .burned) (m .idle + 1) (omega arith) (s .order) (s .spares) (omega arith) s
 
 pub tick-sane : (m : Model) → m .now + 1 ≤ lastTick → Sane m → Sane (tick m)
 unfolding tick serve
-tick-sane m h s = charge-sane (renewed m) (next (renewed m)) (next-names (renewed m)) (renewed-sane m h s)
+tick-sane m h s = charge-sane (renewed m) (renewed-sane m h s) (useOf (next (renewed m))) (next-names (renewed m))

@@ -8,17 +8,17 @@ use Rattle.laws.proofs.Cases.{never, by-leb}
 use Rattle.laws.proofs.Elements.{All, none, each, all-from, all-map, all-imp, all-both, all-changed, map-changed, map-same, total-le, total-map-le, total-none, total-changed}
 use Rattle.rules.specs.Table.{shareOf}
 use Rattle.rules.specs.Model.{Guest, guest, Spare, spare, Model, deadlineOf, noGuest, guestAt}
-use Rattle.rules.specs.Steps.{join, arrive, finish, leave, done, renew, renewed, Portion, onOwn, onSpare, burning, nothing, spend, runOwn, runLent, charge}
+use Rattle.rules.specs.Steps.{join, arrive, finish, leave, done, renew, renewed, ownBudget, spareOf, runs, burns, nothing, Portion, portion, useOf, spend, ran, later, charge}
 use Rattle.rules.specs.Places.{entryOf}
 use Rattle.promises.specs.Promises.{NoneBy, Earliest, NobodyCan, Fair}
-use Rattle.promises.proofs.Keeping.{entry-join, entry-finish, entry-renew, own-runs, lent-runs}
-use Rattle.promises.proofs.Owed.{held, Sorted, held-none, held-spend, sorted-spend, sorted-leave, owed, Fine, Set, owed-later, owed-join, owed-renew, owed-finish, owed-own, owed-paid, owed-lent, Ahead, owed-ahead, Late, owed-late}
+use Rattle.promises.proofs.Keeping.{entry-join, entry-finish, entry-renew, entry-ran}
+use Rattle.promises.proofs.Owed.{held, Sorted, held-none, held-spend, sorted-spend, sorted-leave, owed, Fine, Set, owed-later, owed-join, owed-renew, owed-finish, owed-ran, owed-paid, Ahead, owed-ahead, Late, owed-late}
 
 -- an arrival, a completion, or a tick that takes any fair portion after its step 1
 pub data Legal (m : Model) : Model → Type 0 where
   arriving : (i : ℕ) → Legal m (arrive i m)
   finishing : (i : ℕ) → Legal m (done i m)
-  ticking : (p : Portion) → Fair (renewed m .guests) (renewed m .spares) p → Legal m (charge p (renewed m))
+  ticking : (p : Portion) → Fair (renewed m .guests) (renewed m .spares) p → Legal m (charge 1 (useOf p) (renewed m))
 
 -- the states of such runs
 pub data Reach (start : Model) : Model → Type 0 where
@@ -92,13 +92,9 @@ fine-next now (guest Q T zero c d own lent) p a = p
 fine-next now (guest Q T (suc jobs) zero d own lent) p a = omega arith
 fine-next now (guest Q T (suc jobs) (suc c) d own lent) p a = (p .0, p .1, omega (arith, a (omega arith)))
 
-fine-own : (now : ℕ) (g : Guest) → Fine now g → Fine now (runOwn g)
-fine-own now (guest Q T zero c d own lent) p = omega arith
-fine-own now (guest Q T (suc jobs) c d own lent) p = p
-
-fine-lent : (now : ℕ) (g : Guest) → Fine now g → Fine now (runLent g)
-fine-lent now (guest Q T zero c d own lent) p = p
-fine-lent now (guest Q T (suc jobs) c d own lent) p = p
+fine-ran : (n k now : ℕ) (g : Guest) → Fine now g → Fine now (ran n k g)
+fine-ran n k now (guest Q T zero c d own lent) p = omega arith
+fine-ran n k now (guest Q T (suc jobs) c d own lent) p = p
 
 -- where whoever can run is past D, what is owed by D fits
 pub owes-late : (now D : ℕ) {gs : List Guest} → All (Fine now) gs → All (Late D) gs → total (owed now D) gs ≤ total (shareOf (D - now)) (map entryOf gs)
@@ -138,14 +134,14 @@ module _ (m : Model) (b : Between m) where
 
   -- a spare that nobody who can run comes before pays the tick
   spare-pays : (d owner c : ℕ) (rest : List Spare) → m .spares ≡ spare d owner c ∷ rest → (D : ℕ) → (D < d → All (Late D) (m .guests)) → m .now + 1 ≤ D
-      → total (held D) (spend (m .spares)) + total (owed (m .now + 1) D) (m .guests) ≤ D - (m .now + 1)
+      → total (held D) (spend 1 (m .spares)) + total (owed (m .now + 1) D) (m .guests) ≤ D - (m .now + 1)
   spare-pays d owner c rest e D a l =
       let s : Sorted 0 (spare d owner c ∷ rest) = rw e at (b .sorted) in
       let h : total (held D) (spare d owner c ∷ rest) + total (owed (m .now) D) (m .guests) ≤ D - m .now = rw e at (b .demand D (omega arith)) in
       rw e
-      (by-leb (λ t. total (held D) (spend (spare d owner c ∷ rest)) + total (owed (m .now + 1) D) (m .guests) ≤ D - (m .now + 1)) d D
-      (λ p. omega (arith, held-spend 0 D d owner c rest s p, owes-later D))
-      (λ p. omega (arith, held-none d D (spend (spare d owner c ∷ rest)) (sorted-spend d (spare d owner c ∷ rest) (omega arith, s .1, s .2)) p, owes-fits D (a p))))
+      (by-leb (λ t. total (held D) (spend 1 (spare d owner c ∷ rest)) + total (owed (m .now + 1) D) (m .guests) ≤ D - (m .now + 1)) d D
+      (λ p. omega (arith, held-spend 1 D d owner c rest (s .1) p, owes-later D))
+      (λ p. omega (arith, held-none d D (spend 1 (spare d owner c ∷ rest)) (sorted-spend 1 d (spare d owner c ∷ rest) (omega arith, s .1, s .2)) p, owes-fits D (a p))))
 
   -- before a deadline that no spare comes up to, no spare is due
   none-due : (d D : ℕ) → D < d → NoneBy d (m .spares) → total (held D) (m .spares) ≡ 0
@@ -157,13 +153,13 @@ module _ (m : Model) (b : Between m) where
 
   -- the earliest guest pays it
   guest-pays : (i : ℕ) → Earliest (m .guests) i → NoneBy (deadlineOf (guestAt i (m .guests))) (m .spares) → (D : ℕ) → (D < deadlineOf (guestAt i (m .guests)) → All (Late D) (m .guests)) → m .now + 1 ≤ D
-      → total (held D) (m .spares) + total (owed (m .now + 1) D) (changed i runOwn (m .guests)) ≤ D - (m .now + 1)
+      → total (held D) (m .spares) + total (owed (m .now + 1) D) (changed i (ran 1 0) (m .guests)) ≤ D - (m .now + 1)
   guest-pays i f none-by D a l =
       let g = guestAt i (m .guests) in
-      let change = total-changed noGuest (owed (m .now + 1) D) i runOwn (m .guests) (f .place) in
-      by-leb (λ t. total (held D) (m .spares) + total (owed (m .now + 1) D) (changed i runOwn (m .guests)) ≤ D - (m .now + 1)) (deadlineOf g) D
+      let change = total-changed noGuest (owed (m .now + 1) D) i (ran 1 0) (m .guests) (f .place) in
+      by-leb (λ t. total (held D) (m .spares) + total (owed (m .now + 1) D) (changed i (ran 1 0) (m .guests)) ≤ D - (m .now + 1)) (deadlineOf g) D
       (λ p. omega (arith, change, owed-paid (m .now + 1) D g (f .can) p, owes-later D, b .demand D (omega arith)))
-      (λ p. omega (arith, change, owed-own (m .now + 1) D g, none-due (deadlineOf g) D p none-by, owes-fits D (a p)))
+      (λ p. omega (arith, change, owed-ran 1 0 (m .now + 1) D g, none-due (deadlineOf g) D p none-by, owes-fits D (a p)))
 
   earliest-late : (i D : ℕ) → Earliest (m .guests) i → D < deadlineOf (guestAt i (m .guests)) → All (Late D) (m .guests)
   earliest-late i D f l = all-from noGuest (m .guests) (λ k h c. omega (arith, f .smallest k c))
@@ -171,29 +167,30 @@ module _ (m : Model) (b : Between m) where
   nobody-late : (D : ℕ) → NobodyCan (m .guests) → All (Late D) (m .guests)
   nobody-late D h = all-from noGuest (m .guests) (λ k l c. never c (h k))
 
-  charge-kept : (p : Portion) → Fair (m .guests) (m .spares) p → Kept (charge p m)
-  charge-kept (onOwn i d span) f =
+  -- a guest runs, and what is owed then is paid for
+  run-kept : (n k i : ℕ) (ss : List Spare) → Sorted 0 ss → ((D : ℕ) → m .now + 1 ≤ D → total (held D) ss + total (owed (m .now + 1) D) (changed i (ran n k) (m .guests)) ≤ D - (m .now + 1))
+      → Kept (later 1 m (changed i (ran n k) (m .guests)) ss (m .burned) (m .idle))
+  run-kept n k i ss sorted pays =
       record {
-        table = λ x. rw (map-changed entryOf runOwn (own-runs .entry) i (m .guests)) (b .table x);
-        demand = λ D l. guest-pays i (f .0) (f .1) D (λ p. earliest-late i D (f .0) p) l;
-        fine = all-changed noGuest i runOwn (b .fine) (λ p. fine-own (m .now + 1) (guestAt i (m .guests)) p);
-        sorted = b .sorted;
+        table = λ x. rw (map-changed entryOf (ran n k) (entry-ran n k) i (m .guests)) (b .table x);
+        demand = pays;
+        fine = all-changed noGuest i (ran n k) (b .fine) (λ p. fine-ran n k (m .now + 1) (guestAt i (m .guests)) p);
+        sorted = sorted;
       }
-  charge-kept (onSpare i owner d span) f =
-      record {
-        table = λ x. rw (map-changed entryOf runLent (lent-runs .entry) i (m .guests)) (b .table x);
-        demand = λ D l. omega (arith, total-changed noGuest (owed (m .now + 1) D) i runLent (m .guests) (f .0 .place), owed-lent (m .now + 1) D (guestAt i (m .guests)), spare-pays d owner span (f .1 .0) (f .1 .1) D (λ p. earliest-late i D (f .0) (omega (arith, f .2))) l);
-        fine = all-changed noGuest i runLent (b .fine) (λ p. fine-lent (m .now + 1) (guestAt i (m .guests)) p);
-        sorted = sorted-spend 0 (m .spares) (b .sorted);
-      }
-  charge-kept (burning owner d span) f =
+
+  charge-kept : (p : Portion) → Fair (m .guests) (m .spares) p → Kept (charge 1 (useOf p) m)
+  charge-kept (portion (runs i ownBudget) d span) f = run-kept 1 0 i (m .spares) (b .sorted) (λ D l. guest-pays i (f .0) (f .1) D (λ p. earliest-late i D (f .0) p) l)
+  charge-kept (portion (runs i (spareOf owner)) d span) f =
+      run-kept 0 1 i (spend 1 (m .spares)) (sorted-spend 1 0 (m .spares) (b .sorted))
+      (λ D l. omega (arith, total-changed noGuest (owed (m .now + 1) D) i (ran 0 1) (m .guests) (f .0 .place), owed-ran 0 1 (m .now + 1) D (guestAt i (m .guests)), spare-pays d owner (f .1 .0) (f .1 .1 .0) (f .1 .1 .1) D (λ p. earliest-late i D (f .0) (omega (arith, f .2))) l))
+  charge-kept (portion (burns owner) d span) f =
       record {
         table = b .table;
-        demand = λ D l. spare-pays d owner span (f .1 .0) (f .1 .1) D (λ p. nobody-late D (f .0)) l;
+        demand = λ D l. spare-pays d owner (f .1 .0) (f .1 .1 .0) (f .1 .1 .1) D (λ p. nobody-late D (f .0)) l;
         fine = b .fine;
-        sorted = sorted-spend 0 (m .spares) (b .sorted);
+        sorted = sorted-spend 1 0 (m .spares) (b .sorted);
       }
-  charge-kept nothing f =
+  charge-kept (portion nothing d span) f =
       record {
         table = b .table;
         demand = λ D l. omega (arith, ap (total (held D)) (f .1), owes-fits D (nobody-late D (f .0)));

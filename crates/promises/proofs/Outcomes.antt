@@ -13,6 +13,7 @@ use Rattle.rules.specs.declared.Answer.{Answer}
 use Rattle.rules.specs.declared.Answer.the-variants.{Went, Refused}
 use Rattle.rules.specs.declared.Outcome.{Outcome}
 use Rattle.rules.specs.declared.State.{State}
+use Rattle.rules.specs.declared.Source.{Source as DeclaredSource}
 use Rattle.rules.specs.declared.Source.the-variants.{Own, SpareOf}
 use Rattle.rules.specs.declared.Next.{Next}
 use Rattle.rules.specs.declared.Next.the-variants.{Run, Burn, Nothing}
@@ -24,9 +25,9 @@ use Rattle.rules.specs.Refusals.{Row, first, refusalNumber, numberOf}
 use Rattle.rules.specs.Table.{noTable}
 use Rattle.rules.specs.Model.{Model}
 use Rattle.rules.specs.Places.{noState}
-use Rattle.rules.specs.Steps.{Portion, onOwn, onSpare, burning, nothing}
+use Rattle.rules.specs.Steps.{Source, ownBudget, spareOf, Use, runs, burns, nothing, limited, endless, Portion, portion, nothingToDo}
 use Rattle.rules.specs.Calls.{told, kept, advanceRows, portionOf, Moved}
-use Rattle.rules.specs.Lines.{Use, own, spareOf, burned, idle, Line}
+use Rattle.rules.specs.Lines.{Line}
 use Rattle.rules.specs.Walks.{usedOf, useIn, portionPlace, noPortion, walkLines, walkState, walkLeft, Walked}
 use Rattle.promises.specs.Promises.{AnswersDetermined, OneOutcome, RefusalGivesBack}
 
@@ -79,11 +80,16 @@ answer-back (Refused Malformed) = refl
 answer-same : (a b : Answer) → numberOf a ≡ numberOf b → a ≡ b
 answer-same a b e = sym (answer-back a) ∙ ap answerOf e ∙ answer-back b
 
+abbrev sourceBack : Source → DeclaredSource
+sourceBack ownBudget = Own
+sourceBack (spareOf owner) = SpareOf owner
+
 abbrev nextOf : Portion → Next
-nextOf (onOwn i d span) = Run i Own d span
-nextOf (onSpare i owner d span) = Run i (SpareOf owner) d span
-nextOf (burning owner d span) = Burn owner d span
-nextOf nothing = Nothing
+nextOf (portion (runs i source) d (limited span)) = Run i (sourceBack source) d span
+nextOf (portion (runs i source) d endless) = Nothing
+nextOf (portion (burns owner) d (limited span)) = Burn owner d span
+nextOf (portion (burns owner) d endless) = Nothing
+nextOf (portion nothing d span) = Nothing
 
 next-back : (x : Next) → nextOf (portionOf x) ≡ x
 next-back (Run i Own d span) = refl
@@ -104,10 +110,10 @@ use-same : (x y : Used) → useIn x ≡ useIn y → x ≡ y
 use-same x y e = sym (use-back x) ∙ ap usedOf e ∙ use-back y
 
 use-said : (u : Use) → useIn (usedOf u) ≡ u
-use-said (own i) = refl
-use-said (spareOf i owner) = refl
-use-said (burned owner) = refl
-use-said idle = refl
+use-said (runs i ownBudget) = refl
+use-said (runs i (spareOf owner)) = refl
+use-said (burns owner) = refl
+use-said nothing = refl
 
 pub answers-determined : AnswersDetermined
 answers-determined = record { number = answer-same; portion = next-same; use-of = use-same; use-said = use-said }
@@ -200,7 +206,7 @@ refusal-gives-back =
       done = λ s i r p h. moved-back _ _ s r p h;
       advance = λ s k r p h. moved-back _ _ s r p h;
       walk = λ s k r p h. walk-back s k r p (rw (p .answer) at h);
-      ask = λ s r p h. next-same (r .next) Nothing (p .next ∙ told-back _ _ nothing s (rw (p .answer) at h));
+      ask = λ s r p h. next-same (r .next) Nothing (p .next ∙ told-back _ _ nothingToDo s (rw (p .answer) at h));
       active = λ s r p h. (p .mask ∙ told-back _ _ 0 s (rw (p .answer) at h), p .count ∙ told-back _ _ 0 s (rw (p .answer) at h));
       margin = λ s i r p h. p .ticks ∙ told-back _ _ (pos 0) s (rw (p .answer) at h);
       fresh = λ t r p h. p .state ∙ kept-back _ _ noState (rw (p .answer) at h);

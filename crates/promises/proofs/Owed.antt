@@ -13,10 +13,11 @@ use Rattle.laws.proofs.Elements.{All, none, each}
 use Rattle.rules.specs.declared.Entry.{Entry}
 use Rattle.rules.specs.Table.{shareOf}
 use Rattle.rules.specs.Model.{Guest, guest, Spare, spare, leftOf, deadlineOf, dueOf, capacityOf}
-use Rattle.rules.specs.Steps.{join, before, insertSpare, finish, leave, renew, spend, runOwn, runLent}
+use Rattle.rules.specs.Steps.{join, before, insertSpare, finish, leave, renew, spend, ran}
 use Rattle.rules.specs.Places.{entryOf}
 use Rattle.promises.specs.Promises.{canRun}
 use Rattle.promises.proofs.GoodTable.{Fits}
+use Rattle.promises.proofs.Keeping.{spend-either}
 
 -- ---- a capacity by its deadline
 
@@ -36,9 +37,9 @@ due-zero : (d D : ℕ) → due d D 0 ≡ 0
 unfolding due
 due-zero d D = by-leb (λ t. _≡_ {A = ℕ} (cond t 0 0) 0) d D (λ h. refl) (λ h. refl)
 
-due-less : (d D c : ℕ) → due d D (c - 1) ≤ due d D c
+due-less : (n d D c : ℕ) → due d D (c - n) ≤ due d D c
 unfolding due
-due-less d D c = by-leb (λ t. cond t (c - 1) 0 ≤ cond t c 0) d D (λ h. omega arith) (λ h. omega arith)
+due-less n d D c = by-leb (λ t. cond t (c - n) 0 ≤ cond t c 0) d D (λ h. omega arith) (λ h. omega arith)
 
 -- ---- the spares
 
@@ -72,18 +73,16 @@ unfolding held
 held-none low D [] s h = refl
 held-none low D (spare d owner c ∷ ss) s h = omega (arith, due-out d D c (omega arith), held-none d D ss (s .2) (omega arith))
 
--- the first spare loses 1
-pub held-spend : (low D d owner c : ℕ) (ss : List Spare) → Sorted low (spare d owner c ∷ ss) → d ≤ D → total (held D) (spend (spare d owner c ∷ ss)) + 1 ≤ total (held D) (spare d owner c ∷ ss)
+-- the first spare loses n
+pub held-spend : (n D d owner c : ℕ) (ss : List Spare) → n ≤ c → d ≤ D → total (held D) (spend n (spare d owner c ∷ ss)) + n ≤ total (held D) (spare d owner c ∷ ss)
 unfolding held
-held-spend low D d owner zero ss s h = omega arith
-held-spend low D d owner (suc zero) ss s h = omega (arith, due-in d D 1 h)
-held-spend low D d owner (suc (suc c)) ss s h = omega (arith, due-in d D (suc (suc c)) h, due-in d D (suc c) h)
+held-spend n D d owner c ss l h =
+    spend-either (λ xs. total (held D) xs + n ≤ due d D c + total (held D) ss) n d owner c ss
+    (omega (arith, due-in d D c h)) (λ p. omega (arith, due-in d D c h, due-in d D (c - n) h))
 
-pub sorted-spend : (low : ℕ) (ss : List Spare) → Sorted low ss → Sorted low (spend ss)
-sorted-spend low [] s = tt
-sorted-spend low (spare d owner zero ∷ ss) s = sorted-down d low ss (s .0) (s .2)
-sorted-spend low (spare d owner (suc zero) ∷ ss) s = sorted-down d low ss (s .0) (s .2)
-sorted-spend low (spare d owner (suc (suc c)) ∷ ss) s = (s .0, omega arith, s .2)
+pub sorted-spend : (n low : ℕ) (ss : List Spare) → Sorted low ss → Sorted low (spend n ss)
+sorted-spend n low [] s = tt
+sorted-spend n low (spare d owner c ∷ ss) s = spend-either (Sorted low) n d owner c ss (sorted-down d low ss (s .0) (s .2)) (λ h. (s .0, omega arith, s .2))
 
 -- what stands before has no later deadline
 before-early : (d i c e k b : ℕ) → before (spare d i c) (spare e k b) ≡ true → d ≤ e
@@ -166,21 +165,17 @@ owed-finish now D i (guest Q T (suc zero) zero d own lent) ss = omega arith
 owed-finish now D i (guest Q T (suc zero) (suc c) d own lent) ss = omega (arith, total-insert (held D) (spare d i (suc c)) ss, due-zero d D)
 owed-finish now D i (guest Q T (suc (suc jobs)) c d own lent) ss = omega arith
 
--- a tick on the own budget
-pub owed-own : (now D : ℕ) (g : Guest) → owed now D (runOwn g) ≤ owed now D g
+-- to run: no more is owed
+pub owed-ran : (n k now D : ℕ) (g : Guest) → owed now D (ran n k g) ≤ owed now D g
 unfolding owed
-owed-own now D (guest Q T jobs c d own lent) = omega (arith, due-less d D c)
+owed-ran n k now D (guest Q T jobs c d own lent) = omega (arith, due-less n d D c)
 
-pub owed-paid : (now D : ℕ) (g : Guest) → canRun g ≡ true → deadlineOf g ≤ D → owed now D (runOwn g) + 1 ≤ owed now D g
+-- and a tick on the own budget is paid
+pub owed-paid : (now D : ℕ) (g : Guest) → canRun g ≡ true → deadlineOf g ≤ D → owed now D (ran 1 0 g) + 1 ≤ owed now D g
 unfolding owed
 owed-paid now D (guest Q T zero c d own lent) h l = never h refl
 owed-paid now D (guest Q T (suc jobs) zero d own lent) h l = never h refl
 owed-paid now D (guest Q T (suc jobs) (suc c) d own lent) h l = omega (arith, due-in d D (suc c) l, due-in d D (suc c - 1) l)
-
--- a tick on a spare changes nothing of the guest's own
-pub owed-lent : (now D : ℕ) (g : Guest) → owed now D (runLent g) ≡ owed now D g
-unfolding owed
-owed-lent now D (guest Q T jobs c d own lent) = refl
 
 -- at D = now nothing is due: what a guest holds is ahead
 abbrev pub Ahead : ℕ → Guest → Type 0

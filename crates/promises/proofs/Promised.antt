@@ -15,10 +15,10 @@ use Rattle.rules.specs.declared.State.{State}
 use Rattle.rules.specs.Refusals.{Row, first}
 use Rattle.rules.specs.Table.{shareOf, entriesOf, tableRows, goodTable}
 use Rattle.rules.specs.Model.{Guest, guest, Spare, Model, budgetOf, leftOf, deadlineOf, ownOf, lentOf, active, noGuest, guestAt}
-use Rattle.rules.specs.Steps.{join, finish, arrive, done, renew, renewed, Portion, onOwn, onSpare, burning, nothing, next, runOwn, runLent, charge, serve, tick, advance, ask}
+use Rattle.rules.specs.Steps.{join, finish, arrive, done, renew, renewed, Source, ownBudget, spareOf, Use, runs, burns, nothing, Portion, portion, useOf, next, ran, charge, serve, tick, advance, ask}
 use Rattle.rules.specs.Places.{model, packed, freshState, entryOf}
 use Rattle.rules.specs.Calls.{arriveRows, doneRows, advanceRows, named, told, moved, Call, arrives, finishes, advances, asks, asksActive, asksMargin, numberGiven, stateAfter, run}
-use Rattle.promises.specs.Runs.{Event, arrival, completion, oneTick, happen, afterAll, eventsOf, events, passed, ownTick, lentTick, counted}
+use Rattle.promises.specs.Runs.{Event, arrival, completion, oneTick, happen, afterAll, eventsOf, events, passed, onBudget, onSpare, tickBy, counted}
 use Rattle.promises.specs.Promises.{NothingOverdue, RunsFirst, Uses, RunIsSteps, CountsAreTallies, canRun, Earliest, Fair, ChoiceIsFair, FirstHalf, SecondHalf, SecondHalfLater}
 use Rattle.promises.proofs.GoodTable.{good}
 use Rattle.promises.proofs.Packing.{model-packed, table-entries}
@@ -79,10 +79,10 @@ first-earliest : (gs : List Guest) → ((k : ℕ) → canRun (guestAt k gs) ≡ 
 first-earliest gs same i r = record { place = r .place; can = same i ∙ r .is-active; smallest = λ k c. r .smallest k (sym (same k) ∙ c) }
 
 uses-fair : (gs : List Guest) (ss : List Spare) → ((k : ℕ) → canRun (guestAt k gs) ≡ active (guestAt k gs)) → (p : Portion) → Uses gs ss p → Fair gs ss p
-uses-fair gs ss same (onOwn i d span) u = (first-earliest gs same i (u .0), rw (u .1) at (u .3))
-uses-fair gs ss same (onSpare i owner d span) u = (first-earliest gs same i (u .0), u .1, u .2)
-uses-fair gs ss same (burning owner d span) u = (λ k. same k ∙ u .0 k, u .1)
-uses-fair gs ss same nothing u = (λ k. same k ∙ u .0 k, u .1)
+uses-fair gs ss same (portion (runs i ownBudget) d span) u = (first-earliest gs same i (u .0), rw (u .1) at (u .3))
+uses-fair gs ss same (portion (runs i (spareOf owner)) d span) u = (first-earliest gs same i (u .0), u .1, u .2)
+uses-fair gs ss same (portion (burns owner) d span) u = (λ k. same k ∙ u .0 k, u .1)
+uses-fair gs ss same (portion nothing d span) u = (λ k. same k ∙ u .0 k, u .1)
 
 own-fair : (m : Model) → Kept m → Fair (renewed m .guests) (renewed m .spares) (next (renewed m))
 unfolding renewed
@@ -147,10 +147,10 @@ first-half t h cs k = not-overdue (passed k cs (freshState t)) (passed-kept t h 
 
 -- ---- the counts are the tallies
 
--- a change of guest k that counts 1
-count-changed : (tally : Guest → ℕ) (f : Guest → Guest) → ((g : Guest) → tally (f g) ≡ tally g + 1) → (i k : ℕ) (gs : List Guest) → k < length gs → tally (guestAt i (changed k f gs)) ≡ tally (guestAt i gs) + cond (eqb i k) 1 0
-count-changed tally f more i k gs h =
-    by-test (λ t. tally (guestAt i (changed k f gs)) ≡ tally (guestAt i gs) + cond t 1 0) (eqb i k)
+-- a change of guest k that counts x for it
+count-changed : (tally : Guest → ℕ) (f : Guest → Guest) (x : ℕ) → ((g : Guest) → tally (f g) ≡ tally g + x) → (i k : ℕ) (gs : List Guest) → k < length gs → tally (guestAt i (changed k f gs)) ≡ tally (guestAt i gs) + cond (eqb i k) x 0
+count-changed tally f x more i k gs h =
+    by-test (λ t. tally (guestAt i (changed k f gs)) ≡ tally (guestAt i gs) + cond t x 0) (eqb i k)
     (λ e. rw (eqb-true i k e, at-same noGuest k f gs h) (more (guestAt k gs)))
     (λ e. rw (at-other noGuest k i f gs (eqb-false i k e)) (omega arith))
 
@@ -158,14 +158,15 @@ count-changed tally f more i k gs h =
 same-changed : (tally : Guest → ℕ) (f : Guest → Guest) → ((g : Guest) → tally (f g) ≡ tally g) → (i k : ℕ) (gs : List Guest) → tally (guestAt i (changed k f gs)) ≡ tally (guestAt i gs)
 same-changed tally f same i k gs = at-either (λ g. tally g ≡ tally (guestAt i gs)) noGuest k i f gs refl (same (guestAt i gs))
 
--- a tally, and the ticks that it counts
-record Tally (tally : Guest → ℕ) (count : ℕ → Portion → ℕ) : Type 0 where
+-- a tally, and what a tick counts in it for the guest that runs
+record Tally (tally : Guest → ℕ) (count : Source → ℕ) : Type 0 where
   join : (now : ℕ) (g : Guest) → tally (join now g) ≡ tally g
   finish : (g : Guest) → tally (finish g) ≡ tally g
   renew : (g : Guest) → tally (renew g) ≡ tally g
-  charge : (i : ℕ) (p : Portion) (m : Model) → Names (length (m .guests)) p → tally (guestAt i (charge p m .guests)) ≡ tally (guestAt i (m .guests)) + count i p
+  budget : (g : Guest) → tally (ran 1 0 g) ≡ tally g + count ownBudget
+  spare : (owner : ℕ) (g : Guest) → tally (ran 0 1 g) ≡ tally g + count (spareOf owner)
 
-module _ (tally : Guest → ℕ) (count : ℕ → Portion → ℕ) (t : Tally tally count) (i : ℕ) where
+module _ (tally : Guest → ℕ) (count : Source → ℕ) (t : Tally tally count) (i : ℕ) where
   arrive-counts : (k : ℕ) (m : Model) → tally (guestAt i (arrive k m .guests)) ≡ tally (guestAt i (m .guests))
   unfolding arrive
   arrive-counts k m = same-changed tally (join (m .now)) (t .join (m .now)) i k (m .guests)
@@ -174,81 +175,65 @@ module _ (tally : Guest → ℕ) (count : ℕ → Portion → ℕ) (t : Tally ta
   unfolding done
   done-counts k m = same-changed tally finish (t .finish) i k (m .guests)
 
-  tick-counts : (m : Model) → tally (guestAt i (tick m .guests)) ≡ tally (guestAt i (m .guests)) + count i (ask m)
+  charge-counts : (u : Use) (m : Model) → Names (length (m .guests)) u → tally (guestAt i (charge 1 u m .guests)) ≡ tally (guestAt i (m .guests)) + tickBy count i u
+  charge-counts (runs k ownBudget) m h = count-changed tally (ran 1 0) (count ownBudget) (t .budget) i k (m .guests) h
+  charge-counts (runs k (spareOf owner)) m h = count-changed tally (ran 0 1) (count (spareOf owner)) (t .spare owner) i k (m .guests) h
+  charge-counts (burns owner) m h = omega arith
+  charge-counts nothing m h = omega arith
+
+  tick-counts : (m : Model) → tally (guestAt i (tick m .guests)) ≡ tally (guestAt i (m .guests)) + tickBy count i (useOf (ask m))
   unfolding tick serve ask renewed
   tick-counts m =
-      t .charge i (next (renewed m)) (renewed m) (next-names (renewed m))
-      ∙ ap (λ (n : ℕ). n + count i (next (renewed m))) (ap tally (List·getD-map renew (m .guests) i noGuest) ∙ t .renew (guestAt i (m .guests)))
+      charge-counts (useOf (next (renewed m))) (renewed m) (next-names (renewed m))
+      ∙ ap (λ (n : ℕ). n + tickBy count i (useOf (next (renewed m)))) (ap tally (List·getD-map renew (m .guests) i noGuest) ∙ t .renew (guestAt i (m .guests)))
 
-  counts : (es : List Event) (m : Model) → tally (guestAt i (afterAll es m .guests)) ≡ tally (guestAt i (m .guests)) + counted (count i) es m
+  counts : (es : List Event) (m : Model) → tally (guestAt i (afterAll es m .guests)) ≡ tally (guestAt i (m .guests)) + counted (tickBy count i) es m
   unfolding afterAll counted
   counts [] m = omega arith
   counts (arrival k ∷ es) m = omega (arith, counts es (arrive k m), arrive-counts k m)
   counts (completion k ∷ es) m = omega (arith, counts es (done k m), done-counts k m)
   counts (oneTick ∷ es) m = omega (arith, counts es (tick m), tick-counts m)
 
-own-tally : Tally ownOf ownTick
-own-tally = record { join = join-own; finish = finish-own; renew = renew-own; charge = charge-own }
-  where
-    join-own : (now : ℕ) (g : Guest) → ownOf (join now g) ≡ ownOf g
-    join-own now (guest Q T zero c d own lent) = refl
-    join-own now (guest Q T (suc jobs) c d own lent) = refl
+-- an arrival, a completion and a renewal change neither tally
+abbrev tallyPair : Guest → ℕ × ℕ
+tallyPair g = (ownOf g, lentOf g)
 
-    finish-own : (g : Guest) → ownOf (finish g) ≡ ownOf g
-    finish-own (guest Q T zero c d own lent) = refl
-    finish-own (guest Q T (suc zero) c d own lent) = refl
-    finish-own (guest Q T (suc (suc jobs)) c d own lent) = refl
+join-tallies : (now : ℕ) (g : Guest) → tallyPair (join now g) ≡ tallyPair g
+join-tallies now (guest Q T zero c d own lent) = refl
+join-tallies now (guest Q T (suc jobs) c d own lent) = refl
 
-    renew-own : (g : Guest) → ownOf (renew g) ≡ ownOf g
-    renew-own (guest Q T zero c d own lent) = refl
-    renew-own (guest Q T (suc jobs) zero d own lent) = refl
-    renew-own (guest Q T (suc jobs) (suc c) d own lent) = refl
+finish-tallies : (g : Guest) → tallyPair (finish g) ≡ tallyPair g
+finish-tallies (guest Q T zero c d own lent) = refl
+finish-tallies (guest Q T (suc zero) c d own lent) = refl
+finish-tallies (guest Q T (suc (suc jobs)) c d own lent) = refl
 
-    counts-own : (g : Guest) → ownOf (runOwn g) ≡ ownOf g + 1
-    counts-own (guest Q T jobs c d own lent) = refl
+renew-tallies : (g : Guest) → tallyPair (renew g) ≡ tallyPair g
+renew-tallies (guest Q T zero c d own lent) = refl
+renew-tallies (guest Q T (suc jobs) zero d own lent) = refl
+renew-tallies (guest Q T (suc jobs) (suc c) d own lent) = refl
 
-    lent-own : (g : Guest) → ownOf (runLent g) ≡ ownOf g
-    lent-own (guest Q T jobs c d own lent) = refl
+-- to run counts in both
+own-ran : (n k : ℕ) (g : Guest) → ownOf (ran n k g) ≡ ownOf g + n
+own-ran n k (guest Q T jobs c d own lent) = refl
 
-    charge-own : (i : ℕ) (p : Portion) (m : Model) → Names (length (m .guests)) p → ownOf (guestAt i (charge p m .guests)) ≡ ownOf (guestAt i (m .guests)) + ownTick i p
-    charge-own i (onOwn k d span) m h = count-changed ownOf runOwn counts-own i k (m .guests) h
-    charge-own i (onSpare k owner d span) m h = omega (arith, same-changed ownOf runLent lent-own i k (m .guests))
-    charge-own i (burning owner d span) m h = omega arith
-    charge-own i nothing m h = omega arith
+lent-ran : (n k : ℕ) (g : Guest) → lentOf (ran n k g) ≡ lentOf g + k
+lent-ran n k (guest Q T jobs c d own lent) = refl
 
-lent-tally : Tally lentOf lentTick
-lent-tally = record { join = join-lent; finish = finish-lent; renew = renew-lent; charge = charge-lent }
-  where
-    join-lent : (now : ℕ) (g : Guest) → lentOf (join now g) ≡ lentOf g
-    join-lent now (guest Q T zero c d own lent) = refl
-    join-lent now (guest Q T (suc jobs) c d own lent) = refl
+-- one of the two
+tally-of : (pick : ℕ × ℕ → ℕ) (count : Source → ℕ) → ((g : Guest) → pick (tallyPair (ran 1 0 g)) ≡ pick (tallyPair g) + count ownBudget) → ((owner : ℕ) (g : Guest) → pick (tallyPair (ran 0 1 g)) ≡ pick (tallyPair g) + count (spareOf owner)) → Tally (λ g. pick (tallyPair g)) count
+tally-of pick count budget spare =
+    record { join = λ now g. ap pick (join-tallies now g); finish = λ g. ap pick (finish-tallies g); renew = λ g. ap pick (renew-tallies g); budget = budget; spare = spare }
 
-    finish-lent : (g : Guest) → lentOf (finish g) ≡ lentOf g
-    finish-lent (guest Q T zero c d own lent) = refl
-    finish-lent (guest Q T (suc zero) c d own lent) = refl
-    finish-lent (guest Q T (suc (suc jobs)) c d own lent) = refl
+own-tally : Tally ownOf onBudget
+own-tally = tally-of (λ p. p .0) onBudget (own-ran 1 0) (λ owner. own-ran 0 1)
 
-    renew-lent : (g : Guest) → lentOf (renew g) ≡ lentOf g
-    renew-lent (guest Q T zero c d own lent) = refl
-    renew-lent (guest Q T (suc jobs) zero d own lent) = refl
-    renew-lent (guest Q T (suc jobs) (suc c) d own lent) = refl
-
-    own-lent : (g : Guest) → lentOf (runOwn g) ≡ lentOf g
-    own-lent (guest Q T jobs c d own lent) = refl
-
-    counts-lent : (g : Guest) → lentOf (runLent g) ≡ lentOf g + 1
-    counts-lent (guest Q T jobs c d own lent) = refl
-
-    charge-lent : (i : ℕ) (p : Portion) (m : Model) → Names (length (m .guests)) p → lentOf (guestAt i (charge p m .guests)) ≡ lentOf (guestAt i (m .guests)) + lentTick i p
-    charge-lent i (onOwn k d span) m h = omega (arith, same-changed lentOf runOwn own-lent i k (m .guests))
-    charge-lent i (onSpare k owner d span) m h = count-changed lentOf runLent counts-lent i k (m .guests) h
-    charge-lent i (burning owner d span) m h = omega arith
-    charge-lent i nothing m h = omega arith
+lent-tally : Tally lentOf onSpare
+lent-tally = tally-of (λ p. p .1) onSpare (lent-ran 1 0) (λ owner. lent-ran 0 1)
 
 pub counts-are-tallies : CountsAreTallies
 counts-are-tallies i k cs s =
     let es = take k (events cs s) in
-    (counts ownOf ownTick own-tally i es (model s), counts lentOf lentTick lent-tally i es (model s))
+    (counts ownOf onBudget own-tally i es (model s), counts lentOf onSpare lent-tally i es (model s))
 
 -- ---- the second half
 
@@ -285,7 +270,7 @@ second-half t h earlier cs i wakes k stays due =
     omega (arith, served kept awake (omega (arith, due)), counts-are-tallies i k cs w .0, whole)
 
 -- more steps count no less
-counted-more : (f : Portion → ℕ) (es : List Event) (m : Model) (k n : ℕ) → k ≤ n → counted f (take k es) m ≤ counted f (take n es) m
+counted-more : (f : Use → ℕ) (es : List Event) (m : Model) (k n : ℕ) → k ≤ n → counted f (take k es) m ≤ counted f (take n es) m
 unfolding counted
 counted-more f es m zero n h = omega arith
 counted-more f es m (suc k) zero h = absurd (omega arith)
@@ -297,7 +282,7 @@ counted-more f (oneTick ∷ es) m (suc k) (suc n) h = omega (arith, counted-more
 pub second-half-later : SecondHalfLater
 second-half-later t h earlier cs i wakes k n l stays due =
     let w = stateAfter (arrives i) (run earlier (freshState t)) in
-    omega (arith, second-half t h earlier cs i wakes k stays due, counted-more (ownTick i) (events cs w) (model w) k n l)
+    omega (arith, second-half t h earlier cs i wakes k stays due, counted-more (tickBy onBudget i) (events cs w) (model w) k n l)
 
 -- ---- both halves over any fair choices, which is more than the rules' own runs
 

@@ -9,7 +9,7 @@ use lib.ListN.{length, List·getD-eq-default, List·getD-map}
 use Rattle.laws.proofs.Cases.{never, by-leb}
 use Rattle.laws.proofs.Elements.{all-at, all-get, all-imp, total-none, at-either}
 use Rattle.rules.specs.Model.{Guest, guest, spare, Model, leftOf, deadlineOf, ownOf, active, noGuest, guestAt}
-use Rattle.rules.specs.Steps.{join, arrive, finish, done, renew, renewed, Portion, onOwn, onSpare, burning, nothing, runOwn, runLent, charge}
+use Rattle.rules.specs.Steps.{join, arrive, finish, done, renew, renewed, ownBudget, spareOf, Use, runs, burns, nothing, useOf, ran, charge}
 use Rattle.promises.specs.Promises.{NothingOverdue}
 use Rattle.promises.proofs.Owed.{held, held-ahead, owed, Fine, Ahead, owed-ahead}
 use Rattle.promises.proofs.Legal.{Legal, arriving, finishing, ticking, Kept, legal-kept}
@@ -57,27 +57,23 @@ module _ (D R : ℕ) where
       spent (inr s) = inr (omega arith)
   had-renew now (guest Q T (suc jobs) (suc c) d own lent) p h = h
 
-  had-own : (g : Guest) → Had D R g → Had D R (runOwn g)
-  had-own (guest Q T zero c d own lent) h = never (h .0) refl
-  had-own (guest Q T (suc jobs) c d own lent) h = (refl, ran (h .1))
+  had-ran : (n k : ℕ) (g : Guest) → Had D R g → Had D R (ran n k g)
+  had-ran n k (guest Q T zero c d own lent) h = never (h .0) refl
+  had-ran n k (guest Q T (suc jobs) c d own lent) h = (refl, since (h .1))
     where
-      ran : Since D R (guest Q T (suc jobs) c d own lent) → Since D R (runOwn (guest Q T (suc jobs) c d own lent))
-      ran (inl s) = inl (omega arith)
-      ran (inr s) = inr (omega arith)
-
-  had-lent : (g : Guest) → Had D R g → Had D R (runLent g)
-  had-lent (guest Q T zero c d own lent) h = never (h .0) refl
-  had-lent (guest Q T (suc jobs) c d own lent) h = h
+      since : Since D R (guest Q T (suc jobs) c d own lent) → Since D R (ran n k (guest Q T (suc jobs) c d own lent))
+      since (inl s) = inl (omega arith)
+      since (inr s) = inr (omega arith)
 
   -- an active guest is one of the list
   had-place : (i : ℕ) (gs : List Guest) → Had D R (guestAt i gs) → i < length gs
   had-place i gs h =
       by-leb (λ t. i < length gs) (length gs) i (λ l. never (rw (List·getD-eq-default gs noGuest l) at (h .0)) refl) (λ l. l)
 
-  charge-had : (i : ℕ) (m : Model) (p : Portion) → Had D R (guestAt i (m .guests)) → Had D R (guestAt i (charge p m .guests))
-  charge-had i m (onOwn k d span) h = at-either (Had D R) noGuest k i runOwn (m .guests) h (had-own (guestAt i (m .guests)) h)
-  charge-had i m (onSpare k owner d span) h = at-either (Had D R) noGuest k i runLent (m .guests) h (had-lent (guestAt i (m .guests)) h)
-  charge-had i m (burning owner d span) h = h
+  charge-had : (i : ℕ) (m : Model) (u : Use) → Had D R (guestAt i (m .guests)) → Had D R (guestAt i (charge 1 u m .guests))
+  charge-had i m (runs k ownBudget) h = at-either (Had D R) noGuest k i (ran 1 0) (m .guests) h (had-ran 1 0 (guestAt i (m .guests)) h)
+  charge-had i m (runs k (spareOf owner)) h = at-either (Had D R) noGuest k i (ran 0 1) (m .guests) h (had-ran 0 1 (guestAt i (m .guests)) h)
+  charge-had i m (burns owner) h = h
   charge-had i m nothing h = h
 
   renewed-had : (i : ℕ) (m : Model) → Kept m → Had D R (guestAt i (m .guests)) → Had D R (guestAt i (renewed m .guests))
@@ -91,7 +87,7 @@ module _ (D R : ℕ) where
   unfolding arrive done
   step-had i {m} k (arriving j) h a = (a, at-either (If D R) noGuest j i (join (m .now)) (m .guests) (λ b. h .1) (had-join (m .now) (guestAt i (m .guests)) h) a)
   step-had i {m} k (finishing j) h a = (a, at-either (If D R) noGuest j i finish (m .guests) (λ b. h .1) (had-finish (guestAt i (m .guests)) h) a)
-  step-had i {m} k (ticking p f) h a = charge-had i (renewed m) p (renewed-had i m k h)
+  step-had i {m} k (ticking p f) h a = charge-had i (renewed m) (useOf p) (renewed-had i m k h)
 
   -- by its deadline it has had all
   pub had-all : (i : ℕ) (m : Model) → Kept m → Had D R (guestAt i (m .guests)) → D ≤ m .now → R ≤ ownOf (guestAt i (m .guests))

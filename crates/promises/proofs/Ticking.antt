@@ -9,22 +9,22 @@ use Rattle.laws.specs.Lists.{total, changed}
 use Rattle.laws.proofs.Elements.{total-map, total-changed}
 use Rattle.rules.specs.Limits.{lastTick}
 use Rattle.rules.specs.Model.{Guest, Model, talliesOf, noGuest, guestAt, tallies}
-use Rattle.rules.specs.Steps.{renew, renewed, Portion, onOwn, onSpare, burning, nothing, next, runOwn, runLent, charge, serve, tick, advance}
+use Rattle.rules.specs.Steps.{renew, renewed, ownBudget, spareOf, Use, runs, burns, nothing, useOf, next, ran, charge, serve, tick, advance}
 use Rattle.promises.specs.Promises.{TalliesGrow}
 use Rattle.promises.proofs.Facts.{Sane}
-use Rattle.promises.proofs.Keeping.{Names, next-names, tallies-renew, Runs, own-runs, lent-runs, tick-sane}
+use Rattle.promises.proofs.Keeping.{Names, next-names, tallies-renew, tallies-ran, tick-sane}
 
 -- ---- time
 
-charge-now : (p : Portion) (m : Model) → charge p m .now ≡ m .now + 1
-charge-now (onOwn i d span) m = refl
-charge-now (onSpare i owner d span) m = refl
-charge-now (burning owner d span) m = refl
-charge-now nothing m = refl
+charge-now : (n : ℕ) (u : Use) (m : Model) → charge n u m .now ≡ m .now + n
+charge-now n (runs i ownBudget) m = refl
+charge-now n (runs i (spareOf owner)) m = refl
+charge-now n (burns owner) m = refl
+charge-now n nothing m = refl
 
 tick-now : (m : Model) → tick m .now ≡ m .now + 1
 unfolding tick serve renewed
-tick-now m = charge-now (next (renewed m)) (renewed m)
+tick-now m = charge-now 1 (useOf (next (renewed m))) (renewed m)
 
 pub advance-now : (k : ℕ) (m : Model) → advance k m .now ≡ m .now + k
 unfolding advance
@@ -34,18 +34,18 @@ advance-now (suc k) m = omega (arith, advance-now k (tick m), tick-now m)
 -- ---- tallies
 
 -- each tick counts once
-run-tallies : (f : Guest → Guest) → Runs f → (i : ℕ) (gs : List Guest) → i < length gs → total talliesOf (changed i f gs) ≡ total talliesOf gs + 1
-run-tallies f r i gs h = omega (arith, total-changed noGuest talliesOf i f gs h, r .count (guestAt i gs))
+run-tallies : (n k i : ℕ) (gs : List Guest) → i < length gs → total talliesOf (changed i (ran n k) gs) ≡ total talliesOf gs + (n + k)
+run-tallies n k i gs h = omega (arith, total-changed noGuest talliesOf i (ran n k) gs h, tallies-ran n k (guestAt i gs))
 
-charge-tallies : (p : Portion) (m : Model) → Names (length (m .guests)) p → tallies (charge p m) ≡ tallies m + 1
-charge-tallies (onOwn i d span) m h = omega (arith, run-tallies runOwn own-runs i (m .guests) h)
-charge-tallies (onSpare i owner d span) m h = omega (arith, run-tallies runLent lent-runs i (m .guests) h)
-charge-tallies (burning owner d span) m h = omega arith
-charge-tallies nothing m h = omega arith
+charge-tallies : (n : ℕ) (u : Use) (m : Model) → Names (length (m .guests)) u → tallies (charge n u m) ≡ tallies m + n
+charge-tallies n (runs i ownBudget) m h = omega (arith, run-tallies n 0 i (m .guests) h)
+charge-tallies n (runs i (spareOf owner)) m h = omega (arith, run-tallies 0 n i (m .guests) h)
+charge-tallies n (burns owner) m h = omega arith
+charge-tallies n nothing m h = omega arith
 
 tick-tallies : (m : Model) → tallies (tick m) ≡ tallies m + 1
 unfolding tick serve renewed
-tick-tallies m = omega (arith, charge-tallies (next (renewed m)) (renewed m) (next-names (renewed m)), total-map talliesOf renew tallies-renew (m .guests))
+tick-tallies m = omega (arith, charge-tallies 1 (useOf (next (renewed m))) (renewed m) (next-names (renewed m)), total-map talliesOf renew tallies-renew (m .guests))
 
 pub tallies-grow : TalliesGrow
 unfolding advance

@@ -9,39 +9,33 @@ use lib.ListN.{replicate, replicate-append-replicate}
 use Rattle.rules.specs.declared.State.{State}
 use Rattle.rules.specs.Limits.{portionPlaces, lastTick}
 use Rattle.rules.specs.Model.{Model}
-use Rattle.rules.specs.Steps.{Portion, onOwn, onSpare, burning, nothing, advance, ask}
+use Rattle.rules.specs.Steps.{Span, limited, endless, useOf, spanOf, advance, ask}
 use Rattle.rules.specs.Places.{model, packed}
 use Rattle.rules.specs.Refusals.{first}
 use Rattle.rules.specs.Calls.{told, advanceRows, advances, stateAfter}
-use Rattle.rules.specs.Lines.{Line, useOf, ticksOn, lines, linesOf}
+use Rattle.rules.specs.Lines.{Line, ticksOn, lines, linesOf}
 use Rattle.rules.specs.Walks.{ticksIn, walkLines, walkState, walkLeft}
 use Rattle.promises.specs.Joining.{joined, walkedTo, leftAfter, WalksAreAdvance, WalksEnd, uses, ticksOf, LinesAreTicks}
-use Rattle.promises.specs.Spans.{shorter}
+use Rattle.promises.specs.Spans.{Within}
 use Rattle.promises.proofs.Packing.{model-packed}
 use Rattle.promises.proofs.Facts.{Sane, sane-model, packed-sound, packed-back}
 use Rattle.promises.proofs.Ticking.{advance-now, advance-add, advance-sane}
 use Rattle.promises.proofs.Calling.{MayAdvance, may-advance, advance-allowed, advanced}
-use Rattle.promises.proofs.Spans.{AtMost, fewer, span-positive, ask-later}
+use Rattle.promises.proofs.Spans.{within-fewer, use-shorter, span-positive, ask-later}
 
 -- ---- the ticks of one portion: no more than k, no more than the span, and at least one
 
-ticks-on-le : (k : ℕ) (p : Portion) → ticksOn k p ≤ k
-ticks-on-le k (onOwn i d span) = omega arith
-ticks-on-le k (onSpare i owner d span) = omega arith
-ticks-on-le k (burning owner d span) = omega arith
-ticks-on-le k nothing = omega arith
+ticks-on-le : (k : ℕ) (span : Span) → ticksOn k span ≤ k
+ticks-on-le k (limited n) = omega arith
+ticks-on-le k endless = omega arith
 
-ticks-on-stay : (k : ℕ) (p : Portion) → AtMost (ticksOn k p) p
-ticks-on-stay k (onOwn i d span) = omega arith
-ticks-on-stay k (onSpare i owner d span) = omega arith
-ticks-on-stay k (burning owner d span) = omega arith
-ticks-on-stay k nothing = tt
+ticks-on-stay : (k : ℕ) (span : Span) → Within (ticksOn k span) span
+ticks-on-stay k (limited n) = omega arith
+ticks-on-stay k endless = tt
 
-ticks-on-some : (k : ℕ) (p : Portion) → 1 ≤ k → AtMost 1 p → 1 ≤ ticksOn k p
-ticks-on-some k (onOwn i d span) l h = omega arith
-ticks-on-some k (onSpare i owner d span) l h = omega arith
-ticks-on-some k (burning owner d span) l h = omega arith
-ticks-on-some k nothing l h = l
+ticks-on-some : (k : ℕ) (span : Span) → 1 ≤ k → Within 1 span → 1 ≤ ticksOn k span
+ticks-on-some k (limited n) l h = omega arith
+ticks-on-some k endless l h = l
 
 -- ---- portions in parts
 
@@ -51,8 +45,8 @@ unfolding ticksIn
 ticks-in-le zero k m = omega arith
 ticks-in-le (suc most) zero m = omega arith
 ticks-in-le (suc most) (suc k) m =
-    let n = ticksOn (suc k) (ask m) in
-    omega (arith, ticks-on-le (suc k) (ask m), ticks-in-le most (suc k - n) (advance n m))
+    let n = ticksOn (suc k) (spanOf (ask m)) in
+    omega (arith, ticks-on-le (suc k) (spanOf (ask m)), ticks-in-le most (suc k - n) (advance n m))
 
 -- nothing left: no further portion
 pub lines-none : (b : ℕ) (m : Model) → lines b 0 m ≡ []
@@ -105,9 +99,9 @@ unfolding ticksIn
 ticks-in-ge zero k m a = omega arith
 ticks-in-ge (suc most) zero m a = omega arith
 ticks-in-ge (suc most) (suc k) m a =
-    let n = ticksOn (suc k) (ask m) in
-    let b = may-go-on n (suc k) m (ticks-on-le (suc k) (ask m)) a in
-    omega (arith, ticks-on-some (suc k) (ask m) (omega arith) (span-positive m (a .sane)), ticks-in-ge most (suc k - n) (advance n m) b)
+    let n = ticksOn (suc k) (spanOf (ask m)) in
+    let b = may-go-on n (suc k) m (ticks-on-le (suc k) (spanOf (ask m))) a in
+    omega (arith, ticks-on-some (suc k) (spanOf (ask m)) (omega arith) (span-positive m (a .sane)), ticks-in-ge most (suc k - n) (advance n m) b)
 
 -- so k portions have all
 ticks-all : (k : ℕ) (m : Model) → May k m → ticksIn k k m ≡ k
@@ -239,23 +233,17 @@ unfolding uses advance
 uses-add zero b m = rw zero-add
 uses-add (suc a) b m = rw (suc-add, uses-add a b)
 
-use-shorter : (n : ℕ) (p : Portion) → useOf (shorter n p) ≡ useOf p
-use-shorter n (onOwn i d span) = refl
-use-shorter n (onSpare i owner d span) = refl
-use-shorter n (burning owner d span) = refl
-use-shorter n nothing = refl
-
 module _ (m : Model) (s : Sane m) where
   -- while a portion lasts, the next tick uses it
-  use-stays : (n : ℕ) → AtMost (suc n) (ask m) → useOf (ask (advance n m)) ≡ useOf (ask m)
+  use-stays : (n : ℕ) → Within (suc n) (spanOf (ask m)) → useOf (ask (advance n m)) ≡ useOf (ask m)
   use-stays n h = ap useOf (ask-later m s n h) ∙ use-shorter n (ask m)
 
   -- and so does each of them
-  uses-stay : (n : ℕ) → AtMost n (ask m) → uses n m ≡ replicate n (useOf (ask m))
+  uses-stay : (n : ℕ) → Within n (spanOf (ask m)) → uses n m ≡ replicate n (useOf (ask m))
   unfolding uses
   uses-stay zero h = refl
   uses-stay (suc n) h =
-      let i = uses-stay n (fewer n (ask m) h) in
+      let i = uses-stay n (within-fewer n (spanOf (ask m)) h) in
       let e : uses (n + 1) m ≡ replicate (n + 1) (useOf (ask m)) = rw (uses-add, ← replicate-append-replicate, i, use-stays n h) in
       rw add-one at e
 
@@ -265,9 +253,9 @@ unfolding lines ticksIn uses
 lines-uses zero k m a = refl
 lines-uses (suc most) zero m a = refl
 lines-uses (suc most) (suc k) m a =
-    let n = ticksOn (suc k) (ask m) in
-    let b = may-go-on n (suc k) m (ticks-on-le (suc k) (ask m)) a in
-    rw (add-sub-cancel-left, lines-uses most (suc k - n) (advance n m) b, ← uses-stay m (a .sane) n (ticks-on-stay (suc k) (ask m)), uses-add)
+    let n = ticksOn (suc k) (spanOf (ask m)) in
+    let b = may-go-on n (suc k) m (ticks-on-le (suc k) (spanOf (ask m))) a in
+    rw (add-sub-cancel-left, lines-uses most (suc k - n) (advance n m) b, ← uses-stay m (a .sane) n (ticks-on-stay (suc k) (spanOf (ask m))), uses-add)
 
 -- the portions of an advance, tick by tick, are what its ticks use
 pub lines-are-ticks : LinesAreTicks

@@ -11,7 +11,8 @@ use Rattle.rules.specs.Model.{guest, jobsOf, leftOf, deadlineOf, dueOf, capacit
 use Rattle.rules.specs.Places.{model, packed, freshState}
 use Rattle.rules.specs.Calls.{named, Call, arrives, finishes, advances, numberGiven, stateAfter, run}
 use Rattle.rules.specs.Samples.{_by_, table, alone, two}
-use Rattle.rules.specs.Lines.{Line, line, own, spareOf, burned, idle, listing}
+use Rattle.rules.specs.Steps.{ownBudget, spareOf, runs, burns, nothing}
+use Rattle.rules.specs.Lines.{Line, line, listing}
 
 -- ---- how a row is written
 
@@ -80,13 +81,13 @@ unfolding freshState listing
 listingRows =
     says (portions (listing listingCalls (freshState two)))
     (portions
-    (line 0 2 (own 0)
-    ∷ line 2 3 (spareOf 1 0)
-    ∷ line 3 4 (own 1)
-    ∷ line 4 7 (own 0)
-    ∷ line 7 8 (own 1)
-    ∷ line 8 11 (burned 0)
-    ∷ line 11 13 idle
+    (line 0 2 (runs 0 ownBudget)
+    ∷ line 2 3 (runs 1 (spareOf 0))
+    ∷ line 3 4 (runs 1 ownBudget)
+    ∷ line 4 7 (runs 0 ownBudget)
+    ∷ line 7 8 (runs 1 ownBudget)
+    ∷ line 8 11 (burns 0)
+    ∷ line 11 13 nothing
     ∷ []))
     ∷ []
 

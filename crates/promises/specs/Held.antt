@@ -7,14 +7,14 @@ use lib.ListN.{length, drop}
 use Rattle.rules.specs.declared.Refusal.the-variants.{EndOfTime}
 use Rattle.rules.specs.declared.Answer.the-variants.{Went, Refused}
 use Rattle.rules.specs.Model.{guest, spare, Model}
-use Rattle.rules.specs.Steps.{Portion, onOwn, onSpare, burning, nothing}
+use Rattle.rules.specs.Steps.{ownBudget, spareOf, runs, burns, nothing, limited, endless, portion}
 use Rattle.rules.specs.Calls.{arrives, finishes, advances, asks, asksActive, asksMargin}
-use Rattle.rules.specs.Lines.{own, spareOf, idle, line}
+use Rattle.rules.specs.Lines.{line}
 use Rattle.rules.specs.Samples.{running, resting, leftovers, sampleModel, sample, lone}
 use Rattle.rules.specs.HeldSteps.{four, of, at10, then}
 use Rattle.promises.specs.Joining.{joined, walkedTo, leftAfter, uses, ticksOf}
-use Rattle.promises.specs.Spans.{shorter, Within, whose, Ends}
-use Rattle.promises.specs.Runs.{arrival, completion, oneTick, happen, afterAll, events, passed, ownTick, lentTick, ownTicks, lentTicks}
+use Rattle.promises.specs.Spans.{fewer, shorter, Within, whose, Ends}
+use Rattle.promises.specs.Runs.{arrival, completion, oneTick, happen, afterAll, events, passed, onBudget, onSpare, tickBy, ownTicks, lentTicks}
 use Rattle.promises.specs.Promises.{RunsFirst, canRun, NoneBy, NothingOverdue, bit, actives}
 use Rattle.promises.specs.Histories.{walkCall}
 
@@ -23,23 +23,22 @@ pub record JoiningHeld : Type 0 where
   pub left : (leftAfter 0 65 (lone 0 1 1 1) ∷ leftAfter 1 65 (lone 0 1 1 1) ∷ leftAfter 2 65 (lone 0 1 1 1) ∷ []) ≡ 65 ∷ 1 ∷ 0 ∷ []
   pub reached : (walkedTo 1 65 (lone 0 1 1 1) .now ∷ walkedTo 2 65 (lone 0 1 1 1) .now ∷ []) ≡ 64 ∷ 65 ∷ []
   pub portions : (length (joined 1 65 (lone 0 1 1 1)) ∷ length (joined 2 65 (lone 0 1 1 1)) ∷ []) ≡ 64 ∷ 65 ∷ []
-  pub second-walk : drop 64 (joined 2 65 (lone 0 1 1 1)) ≡ line 64 65 (own 0) ∷ []
-  pub two-walks : joined 2 7 sample ≡ line 10 14 (spareOf 0 1) ∷ line 14 15 (spareOf 0 1) ∷ line 15 17 (spareOf 0 0) ∷ []
+  pub second-walk : drop 64 (joined 2 65 (lone 0 1 1 1)) ≡ line 64 65 (runs 0 ownBudget) ∷ []
+  pub two-walks : joined 2 7 sample ≡ line 10 14 (runs 0 (spareOf 1)) ∷ line 14 15 (runs 0 (spareOf 1)) ∷ line 15 17 (runs 0 (spareOf 0)) ∷ []
   -- what each tick uses, and a portion as its ticks
-  pub each-tick : uses 6 sampleModel ≡ spareOf 0 1 ∷ spareOf 0 1 ∷ spareOf 0 1 ∷ spareOf 0 1 ∷ spareOf 0 1 ∷ spareOf 0 0 ∷ []
-  pub of-a-portion : ticksOf (line 3 5 (own 1) ∷ line 5 6 idle ∷ []) ≡ own 1 ∷ own 1 ∷ idle ∷ []
+  pub each-tick : uses 6 sampleModel ≡ runs 0 (spareOf 1) ∷ runs 0 (spareOf 1) ∷ runs 0 (spareOf 1) ∷ runs 0 (spareOf 1) ∷ runs 0 (spareOf 1) ∷ runs 0 (spareOf 0) ∷ []
+  pub of-a-portion : ticksOf (line 3 5 (runs 1 ownBudget) ∷ line 5 6 nothing ∷ []) ≡ runs 1 ownBudget ∷ runs 1 ownBudget ∷ nothing ∷ []
 
 -- a portion that gets shorter
 pub record SpansHeld : Type 0 where
-  pub fewer : map (shorter 2) (onOwn 1 9 5 ∷ onSpare 1 4 9 5 ∷ burning 4 9 5 ∷ nothing ∷ []) ≡ onOwn 1 9 3 ∷ onSpare 1 4 9 3 ∷ burning 4 9 3 ∷ nothing ∷ []
-  pub same : map whose (onOwn 1 9 5 ∷ onSpare 1 4 9 5 ∷ burning 4 9 5 ∷ nothing ∷ []) ≡ onOwn 1 9 0 ∷ onSpare 1 4 9 0 ∷ burning 4 9 0 ∷ nothing ∷ []
-  -- fewer ticks than the span, and as many
-  pub within-own : Within 4 (onOwn 1 9 5) × (Within 5 (onOwn 1 9 5) → ⊥)
-  pub within-spare : Within 4 (onSpare 1 4 9 5) × (Within 5 (onSpare 1 4 9 5) → ⊥)
-  pub within-burning : Within 4 (burning 4 9 5) × (Within 5 (burning 4 9 5) → ⊥)
+  pub fewer-left : map (fewer 2) (limited 5 ∷ endless ∷ []) ≡ limited 3 ∷ endless ∷ []
+  pub same-portion : shorter 2 (portion (runs 1 (spareOf 4)) 9 (limited 5)) ≡ portion (runs 1 (spareOf 4)) 9 (limited 3)
+  pub without-span : whose (portion (runs 1 (spareOf 4)) 9 (limited 5)) ≡ (runs 1 (spareOf 4), 9)
+  -- as many ticks as the span, and one more; nothing to do has no end
+  pub within : Within 5 (limited 5) × (Within 6 (limited 5) → ⊥) × Within 6 endless
   -- a budget of 2 is over after 2 ticks, and neither after 1 nor if it had 3
-  pub over : Ends (at10 (of 1 2 20 ∷ []) []) (onOwn 0 20 2)
-  pub not-over : Ends (at10 (of 1 2 20 ∷ []) []) (onOwn 0 20 1) → ⊥
+  pub over : Ends (at10 (of 1 2 20 ∷ []) []) (portion (runs 0 ownBudget) 20 (limited 2))
+  pub not-over : Ends (at10 (of 1 2 20 ∷ []) []) (portion (runs 0 ownBudget) 20 (limited 1)) → ⊥
 
 -- the single steps of calls, and the ticks that a guest runs in them
 pub record RunsHeld : Type 0 where
@@ -53,8 +52,8 @@ pub record RunsHeld : Type 0 where
   pub handed-on : events (finishes 0 ∷ finishes 0 ∷ finishes 0 ∷ []) sample ≡ completion 0 ∷ completion 0 ∷ []
   pub all-steps : afterAll (completion 0 ∷ oneTick ∷ []) sampleModel ≡ then 11 (guest 3 12 1 2 30 3 2 ∷ resting ∷ []) (spare 16 1 3 ∷ spare 20 1 1 ∷ spare 24 0 3 ∷ []) 1 2
   pub inside : passed 3 (advances 7 ∷ []) sample .now ≡ 13
-  pub own-tick : map (ownTick 1) (onOwn 1 9 5 ∷ onOwn 0 9 5 ∷ onSpare 1 4 9 5 ∷ burning 1 9 5 ∷ nothing ∷ []) ≡ 1 ∷ 0 ∷ 0 ∷ 0 ∷ 0 ∷ []
-  pub spare-tick : map (lentTick 1) (onSpare 1 4 9 5 ∷ onSpare 0 1 9 5 ∷ onOwn 1 9 5 ∷ burning 1 9 5 ∷ nothing ∷ []) ≡ 1 ∷ 0 ∷ 0 ∷ 0 ∷ 0 ∷ []
+  pub own-tick : map (tickBy onBudget 1) (runs 1 ownBudget ∷ runs 0 ownBudget ∷ runs 1 (spareOf 4) ∷ burns 1 ∷ nothing ∷ []) ≡ 1 ∷ 0 ∷ 0 ∷ 0 ∷ 0 ∷ []
+  pub spare-tick : map (tickBy onSpare 1) (runs 1 (spareOf 4) ∷ runs 0 (spareOf 1) ∷ runs 1 ownBudget ∷ burns 1 ∷ nothing ∷ []) ≡ 1 ∷ 0 ∷ 0 ∷ 0 ∷ 0 ∷ []
   -- guest 0 runs 8 ticks on spares and then on its own budget, a completion and an arrival among them
   pub counts :
       (lentTicks 0 12 (advances 9 ∷ finishes 0 ∷ arrives 0 ∷ advances 1 ∷ []) sample ∷ ownTicks 0 12 (advances 9 ∷ finishes 0 ∷ arrives 0 ∷ advances 1 ∷ []) sample ∷ ownTicks 0 10 (advances 10 ∷ []) sample ∷ ownTicks 1 10 (advances 10 ∷ []) sample ∷ [])

@@ -7,11 +7,11 @@ use lib.ListN.{replicate}
 use Rattle.rules.specs.declared.State.{State}
 use Rattle.rules.specs.Limits.{portionPlaces}
 use Rattle.rules.specs.Model.{Model}
-use Rattle.rules.specs.Steps.{tick, ask}
+use Rattle.rules.specs.Steps.{Use, useOf, tick, ask}
 use Rattle.rules.specs.Places.{model}
 use Rattle.rules.specs.Sound.{sound}
 use Rattle.rules.specs.Calls.{advances, numberGiven, stateAfter}
-use Rattle.rules.specs.Lines.{Use, Line, line, useOf, linesOf}
+use Rattle.rules.specs.Lines.{Line, line, linesOf}
 use Rattle.rules.specs.Walks.{walkLines, walkState, walkLeft}
 
 -- ---- walk after walk, each of what the last one left

@@ -24,12 +24,11 @@ use Rattle.rules.specs.Limits.{lastTick, portionPlaces}
 use Rattle.rules.specs.Refusals.{Row, first, numbers, holds, numberOf}
 use Rattle.rules.specs.Table.{tableRows, noTable}
 use Rattle.rules.specs.Model.{guest, budgetOf, ownOf, lentOf, capacityOf, spareAt, Guest, Spare, spare, Model, leftOf, deadlineOf, dueOf, active, guestAt, maskOf, activeCount, tallies}
-use Rattle.rules.specs.Steps.{Portion, onOwn, onSpare, burning, nothing, renewed, next, advance}
+use Rattle.rules.specs.Steps.{ownBudget, spareOf, Use, runs, burns, nothing, Span, limited, endless, Portion, portion, renewed, next, advance}
 use Rattle.rules.specs.Places.{model, packed, freshState, noState}
 use Rattle.rules.specs.Sound.{sound}
 use Rattle.rules.specs.Image.{offsetIn, tableIn, readRows, imageOf, imageLength, writeRows, overwritten}
 use Rattle.rules.specs.Calls.{named, arrives, arriveRows, doneRows, advanceRows, askRows, marginRows, portionOf, Arrived, Finished, Advanced, AskedFor, ActiveTold, MarginTold, Freshened, TableChecked, NoTableMade, TableRead, EntriesHanded, NumberTold, ImageChecked, TableWritten, Call, advances, numberGiven, stateAfter, run}
-use Rattle.rules.specs.Lines.{Use}
 use Rattle.rules.specs.Walks.{usedOf, useIn, Walked, noPortion}
 use Rattle.promises.specs.Runs.{afterAll, events, passed, ownTicks, lentTicks}
 use Rattle.promises.specs.Needed.{line212State, overfullRows, line212Rows}
@@ -124,12 +123,16 @@ abbrev pub NoneBy : ℕ → List Spare → Type 0
 NoneBy d [] = Unit {0}
 NoneBy d (x ∷ ss) = d < dueOf x
 
--- what each portion says of the guests and the spares, its deadline and span included
+-- the first spare is this owner's with deadline d, and the span is its capacity
+abbrev pub FirstSpareIs : List Spare → ℕ → ℕ → Span → Type 0
+FirstSpareIs ss owner d span = (c : ℕ) × FirstSpare ss (spare d owner c) × (span ≡ limited c)
+
+-- what each use says of the guests and the spares, the portion's deadline and span included
 abbrev pub Uses : List Guest → List Spare → Portion → Type 0
-Uses gs ss (onOwn i d span) = RunsFirst gs i × (d ≡ deadlineOf (guestAt i gs)) × (span ≡ leftOf (guestAt i gs)) × NoneBy d ss
-Uses gs ss (onSpare i owner d span) = RunsFirst gs i × FirstSpare ss (spare d owner span) × (d ≤ deadlineOf (guestAt i gs))
-Uses gs ss (burning owner d span) = NobodyActive gs × FirstSpare ss (spare d owner span)
-Uses gs ss nothing = NobodyActive gs × (ss ≡ [])
+Uses gs ss (portion (runs i ownBudget) d span) = RunsFirst gs i × (d ≡ deadlineOf (guestAt i gs)) × (span ≡ limited (leftOf (guestAt i gs))) × NoneBy d ss
+Uses gs ss (portion (runs i (spareOf owner)) d span) = RunsFirst gs i × FirstSpareIs ss owner d span × (d ≤ deadlineOf (guestAt i gs))
+Uses gs ss (portion (burns owner) d span) = NobodyActive gs × FirstSpareIs ss owner d span
+Uses gs ss (portion nothing d span) = NobodyActive gs × (ss ≡ []) × (d ≡ 0) × (span ≡ endless)
 
 -- the choice behind the tick and Ask is the right one
 abbrev pub NextUses : Type 0
@@ -167,10 +170,10 @@ NobodyCan gs = (k : ℕ) → canRun (guestAt k gs) ≡ false
 
 -- "a spare is taken just where its deadline is no later"
 abbrev pub Fair : List Guest → List Spare → Portion → Type 0
-Fair gs ss (onOwn i d span) = Earliest gs i × NoneBy (deadlineOf (guestAt i gs)) ss
-Fair gs ss (onSpare i owner d span) = Earliest gs i × FirstSpare ss (spare d owner span) × (d ≤ deadlineOf (guestAt i gs))
-Fair gs ss (burning owner d span) = NobodyCan gs × FirstSpare ss (spare d owner span)
-Fair gs ss nothing = NobodyCan gs × (ss ≡ [])
+Fair gs ss (portion (runs i ownBudget) d span) = Earliest gs i × NoneBy (deadlineOf (guestAt i gs)) ss
+Fair gs ss (portion (runs i (spareOf owner)) d span) = Earliest gs i × FirstSpareIs ss owner d span × (d ≤ deadlineOf (guestAt i gs))
+Fair gs ss (portion (burns owner) d span) = NobodyCan gs × FirstSpareIs ss owner d span
+Fair gs ss (portion nothing d span) = NobodyCan gs × (ss ≡ [])
 
 -- the rules' own choice, with its tie order, is fair in every state of every run
 abbrev pub ChoiceIsFair : Type 0

@@ -6,7 +6,7 @@ use lib.Dec.{eqb}
 use lib.ListN.{take, replicate}
 use Rattle.rules.specs.declared.State.{State}
 use Rattle.rules.specs.Model.{Model}
-use Rattle.rules.specs.Steps.{arrive, done, Portion, onOwn, onSpare, burning, nothing, tick, ask}
+use Rattle.rules.specs.Steps.{arrive, done, Source, ownBudget, spareOf, Use, runs, burns, nothing, useOf, tick, ask}
 use Rattle.rules.specs.Places.{model}
 use Rattle.rules.specs.Calls.{told, Call, arrives, finishes, advances, asks, asksActive, asksMargin, numberGiven, stateAfter}
 
@@ -50,31 +50,33 @@ passed k cs s = afterAll (take k (events cs s)) (model s)
 
 -- ---- ticks that a guest runs
 
--- 1 where the tick is guest i's own
-abbrev pub ownTick : ℕ → Portion → ℕ
-ownTick i (onOwn k d span) = cond (eqb i k) 1 0
-ownTick i (onSpare k owner d span) = 0
-ownTick i (burning owner d span) = 0
-ownTick i nothing = 0
+-- whether a running guest's tick is on its own budget, as 1 or 0
+abbrev pub onBudget : Source → ℕ
+onBudget ownBudget = 1
+onBudget (spareOf owner) = 0
 
--- 1 where guest i runs on a spare
-abbrev pub lentTick : ℕ → Portion → ℕ
-lentTick i (onOwn k d span) = 0
-lentTick i (onSpare k owner d span) = cond (eqb i k) 1 0
-lentTick i (burning owner d span) = 0
-lentTick i nothing = 0
+-- or on a spare
+abbrev pub onSpare : Source → ℕ
+onSpare ownBudget = 0
+onSpare (spareOf owner) = 1
+
+-- what a tick counts for guest i, where f says what it counts for the guest that runs
+abbrev pub tickBy : (Source → ℕ) → ℕ → Use → ℕ
+tickBy f i (runs k source) = cond (eqb i k) (f source) 0
+tickBy f i (burns owner) = 0
+tickBy f i nothing = 0
 
 -- a count over the ticks of single steps
-unfoldable pub counted : (Portion → ℕ) → List Event → Model → ℕ
+unfoldable pub counted : (Use → ℕ) → List Event → Model → ℕ
 counted f [] m = 0
 counted f (arrival i ∷ es) m = counted f es (arrive i m)
 counted f (completion i ∷ es) m = counted f es (done i m)
-counted f (oneTick ∷ es) m = f (ask m) + counted f es (tick m)
+counted f (oneTick ∷ es) m = f (useOf (ask m)) + counted f es (tick m)
 
 -- the ticks that guest i runs on its own budget in the first k single steps of a run of calls from s
 abbrev pub ownTicks : ℕ → ℕ → List Call → State → ℕ
-ownTicks i k cs s = counted (ownTick i) (take k (events cs s)) (model s)
+ownTicks i k cs s = counted (tickBy onBudget i) (take k (events cs s)) (model s)
 
 -- and those on spares
 abbrev pub lentTicks : ℕ → ℕ → List Call → State → ℕ
-lentTicks i k cs s = counted (lentTick i) (take k (events cs s)) (model s)
+lentTicks i k cs s = counted (tickBy onSpare i) (take k (events cs s)) (model s)

@@ -184,15 +184,24 @@ tick-held =
       spare-at = refl;
       spare-past = refl;
       no-spare = refl;
-      burns = refl;
+      spare-burns = refl;
       rests = refl;
+      use-part = refl;
+      span-part = refl;
       spend-one = refl;
       spend-two = refl;
       spend-last = refl;
       spend-none = refl;
       spend-empty = refl;
+      spend-several = refl;
+      spend-all = refl;
       on-own = refl;
       on-spare = refl;
+      on-both = refl;
+      charge-own = refl;
+      charge-spare = refl;
+      charge-burns = refl;
+      charge-nothing = refl;
       tick-own = refl;
       tick-spare = refl;
       tick-last-of-spare = refl;
@@ -293,7 +302,7 @@ answers-held =
     record {
       own = refl;
       spare-of = refl;
-      burns = refl;
+      spare-burns = refl;
       rests = refl;
       who = refl;
       unchanged = refl;
@@ -305,7 +314,6 @@ pub lines-held : LinesHeld
 unfolding sample lone goodTable arrive renewed next serve tick advance ask model packed inRange sound stateAfter lines linesOf listing ticksIn walkLines walkState walkLeft
 lines-held =
     record {
-      uses = refl;
       cut = refl;
       spent = refl;
       spares = refl;

@@ -10,7 +10,7 @@ use Rattle.rules.specs.declared.Source.the-variants.{Own, SpareOf}
 use Rattle.rules.specs.declared.Next.the-variants.{Run, Burn, Nothing}
 use Rattle.rules.specs.Table.{noTable}
 use Rattle.rules.specs.Model.{guest, spare}
-use Rattle.rules.specs.Steps.{onOwn, onSpare, burning, nothing}
+use Rattle.rules.specs.Steps.{ownBudget, spareOf, runs, burns, nothing, limited, endless, portion}
 use Rattle.rules.specs.Places.{packed, freshState, noState}
 use Rattle.rules.specs.Calls.{Call, arrives, finishes, advances, asks, asksActive, asksMargin, named, portionOf, numberGiven, stateAfter, run, Arrived, Finished, Advanced, AskedFor, ActiveTold, MarginTold, Freshened, TableChecked, NoTableMade, NumberTold}
 use Rattle.rules.specs.Samples.{_by_, running, resting, leftovers, sampleOf, sample, withFirst, withSecond, withSpares, withCount, withTable, lone, crowded}
@@ -97,10 +97,10 @@ pub record OutcomesHeld : Type 0 where
 
 -- what each case of Ask's answer says, and one call after the other
 pub record AnswersHeld : Type 0 where
-  pub own : portionOf (Run 1 Own 2 3) ≡ onOwn 1 2 3
-  pub spare-of : portionOf (Run 1 (SpareOf 4) 2 3) ≡ onSpare 1 4 2 3
-  pub burns : portionOf (Burn 1 2 3) ≡ burning 1 2 3
-  pub rests : portionOf Nothing ≡ nothing
+  pub own : portionOf (Run 1 Own 2 3) ≡ portion (runs 1 ownBudget) 2 (limited 3)
+  pub spare-of : portionOf (Run 1 (SpareOf 4) 2 3) ≡ portion (runs 1 (spareOf 4)) 2 (limited 3)
+  pub spare-burns : portionOf (Burn 1 2 3) ≡ portion (burns 1) 2 (limited 3)
+  pub rests : portionOf Nothing ≡ portion nothing 0 endless
   pub who : named sample 1 ≡ resting
   -- "Ask changes nothing", and so the other questions
   pub unchanged : map (λ (c : Call). stateAfter c sample) (asks ∷ asksActive ∷ asksMargin 1 ∷ []) ≡ sample ∷ sample ∷ sample ∷ []

@@ -7,7 +7,7 @@ use lib.IntN.{pos, negsuc}
 use lib.ListN.{length, replicate}
 use Rattle.rules.specs.declared.State.{State}
 use Rattle.rules.specs.Model.{Guest, guest, Spare, spare, Model, budgetOf, jobsOf, leftOf, deadlineOf, ownOf, lentOf, talliesOf, dueOf, ownerOf, capacityOf, active, idleGuest, guestAt, spareAt, maskOf, activeCount, occupied, tallies}
-use Rattle.rules.specs.Steps.{wake, join, arrive, before, insertSpare, finish, leave, done, renew, renewed, Pick, nobody, runs, ready, sooner, earliest, Portion, onOwn, onSpare, burning, nothing, portion, next, spend, runOwn, runLent, charge, tick, advance, ask, margin}
+use Rattle.rules.specs.Steps.{wake, join, arrive, before, insertSpare, finish, leave, done, renew, renewed, nobody, picked, ready, sooner, earliest, ownBudget, spareOf, runs, burns, nothing, limited, endless, portion, useOf, spanOf, portionFor, spend, ran, charge, tick, advance, ask, margin}
 use Rattle.rules.specs.Places.{model, packed, freshState, noState}
 use Rattle.rules.specs.Samples.{_by_, table, running, resting, leftovers, sampleOf, sampleModel, sample}
 use Rattle.rules.specs.HeldTable.{sixteen, counted}
@@ -100,32 +100,44 @@ pub record TickHeld : Type 0 where
   pub renew-idle-left : renew (of 0 2 11) ≡ of 0 2 11
   pub renew-each : renewed (at10 (of 0 0 11 ∷ of 1 0 11 ∷ of 1 1 11 ∷ of 1 0 13 ∷ []) []) ≡ at10 (of 0 0 11 ∷ of 1 3 23 ∷ of 1 1 11 ∷ of 1 3 25 ∷ []) []
   -- step 2, "The active guest with the smallest d runs; equal deadlines, the lowest number."
-  pub is-ready : ready 4 (of 2 1 11) ≡ runs 4 11 1
+  pub is-ready : ready 4 (of 2 1 11) ≡ picked 4 11 1
   pub is-idle : ready 4 (of 0 0 11) ≡ nobody
-  pub smallest : earliest 0 (of 1 1 12 ∷ of 1 2 11 ∷ of 1 3 13 ∷ []) ≡ runs 1 11 2
-  pub lowest : earliest 0 (of 0 0 5 ∷ of 1 1 11 ∷ of 1 2 11 ∷ []) ≡ runs 1 11 1
-  pub last : earliest 0 (of 1 1 12 ∷ of 0 0 1 ∷ of 1 2 11 ∷ []) ≡ runs 2 11 2
-  pub from : earliest 3 (of 0 0 5 ∷ of 1 1 11 ∷ []) ≡ runs 4 11 1
+  pub smallest : earliest 0 (of 1 1 12 ∷ of 1 2 11 ∷ of 1 3 13 ∷ []) ≡ picked 1 11 2
+  pub lowest : earliest 0 (of 0 0 5 ∷ of 1 1 11 ∷ of 1 2 11 ∷ []) ≡ picked 1 11 1
+  pub last : earliest 0 (of 1 1 12 ∷ of 0 0 1 ∷ of 1 2 11 ∷ []) ≡ picked 2 11 2
+  pub from : earliest 3 (of 0 0 5 ∷ of 1 1 11 ∷ []) ≡ picked 4 11 1
   pub none-ready : earliest 0 (of 0 0 5 ∷ of 0 0 6 ∷ []) ≡ nobody
-  pub first-alone : sooner (runs 1 11 2) nobody ≡ runs 1 11 2
-  pub second-alone : sooner nobody (runs 1 11 2) ≡ runs 1 11 2
+  pub first-alone : sooner (picked 1 11 2) nobody ≡ picked 1 11 2
+  pub second-alone : sooner nobody (picked 1 11 2) ≡ picked 1 11 2
   -- step 3, "If the first spare has a deadline at most that d": behind it, at it, past it, and none
-  pub spare-before : portion (runs 1 11 2) (spare 10 3 4 ∷ spare 11 0 1 ∷ []) ≡ onSpare 1 3 10 4
-  pub spare-at : portion (runs 1 11 2) (spare 11 3 4 ∷ []) ≡ onSpare 1 3 11 4
-  pub spare-past : portion (runs 1 11 2) (spare 12 3 4 ∷ []) ≡ onOwn 1 11 2
-  pub no-spare : portion (runs 1 11 2) [] ≡ onOwn 1 11 2
+  pub spare-before : portionFor (picked 1 11 2) (spare 10 3 4 ∷ spare 11 0 1 ∷ []) ≡ portion (runs 1 (spareOf 3)) 10 (limited 4)
+  pub spare-at : portionFor (picked 1 11 2) (spare 11 3 4 ∷ []) ≡ portion (runs 1 (spareOf 3)) 11 (limited 4)
+  pub spare-past : portionFor (picked 1 11 2) (spare 12 3 4 ∷ []) ≡ portion (runs 1 ownBudget) 11 (limited 2)
+  pub no-spare : portionFor (picked 1 11 2) [] ≡ portion (runs 1 ownBudget) 11 (limited 2)
   -- step 4, "If no guest is active, the first spare, if any"
-  pub burns : portion nobody (spare 12 3 4 ∷ spare 13 0 1 ∷ []) ≡ burning 3 12 4
-  pub rests : portion nobody [] ≡ nothing
+  pub spare-burns : portionFor nobody (spare 12 3 4 ∷ spare 13 0 1 ∷ []) ≡ portion (burns 3) 12 (limited 4)
+  pub rests : portionFor nobody [] ≡ portion nothing 0 endless
+  -- the parts of a portion
+  pub use-part : useOf (portion (runs 1 (spareOf 3)) 10 (limited 4)) ≡ runs 1 (spareOf 3)
+  pub span-part : spanOf (portion (runs 1 (spareOf 3)) 10 (limited 4)) ≡ limited 4
   -- "it loses 1 and a spare at 0 is removed"
-  pub spend-one : spend (spare 12 3 4 ∷ spare 13 0 1 ∷ []) ≡ spare 12 3 3 ∷ spare 13 0 1 ∷ []
-  pub spend-two : spend (spare 12 3 2 ∷ []) ≡ spare 12 3 1 ∷ []
-  pub spend-last : spend (spare 12 3 1 ∷ spare 13 0 1 ∷ []) ≡ spare 13 0 1 ∷ []
-  pub spend-none : spend [] ≡ []
-  pub spend-empty : spend (spare 12 3 0 ∷ spare 13 0 1 ∷ []) ≡ spare 13 0 1 ∷ []
+  pub spend-one : spend 1 (spare 12 3 4 ∷ spare 13 0 1 ∷ []) ≡ spare 12 3 3 ∷ spare 13 0 1 ∷ []
+  pub spend-two : spend 1 (spare 12 3 2 ∷ []) ≡ spare 12 3 1 ∷ []
+  pub spend-last : spend 1 (spare 12 3 1 ∷ spare 13 0 1 ∷ []) ≡ spare 13 0 1 ∷ []
+  pub spend-none : spend 1 [] ≡ []
+  pub spend-empty : spend 1 (spare 12 3 0 ∷ spare 13 0 1 ∷ []) ≡ spare 13 0 1 ∷ []
+  -- and of several ticks at once
+  pub spend-several : spend 3 (spare 12 3 4 ∷ spare 13 0 1 ∷ []) ≡ spare 12 3 1 ∷ spare 13 0 1 ∷ []
+  pub spend-all : spend 4 (spare 12 3 4 ∷ spare 13 0 1 ∷ []) ≡ spare 13 0 1 ∷ []
   -- "otherwise the guest's c loses 1", and each of the four tallies
-  pub on-own : runOwn (guest 3 12 2 2 30 3 1) ≡ guest 3 12 2 1 30 4 1
-  pub on-spare : runLent (guest 3 12 2 2 30 3 1) ≡ guest 3 12 2 2 30 3 2
+  pub on-own : ran 1 0 (guest 3 12 2 2 30 3 1) ≡ guest 3 12 2 1 30 4 1
+  pub on-spare : ran 0 1 (guest 3 12 2 2 30 3 1) ≡ guest 3 12 2 2 30 3 2
+  pub on-both : ran 2 5 (guest 3 12 2 3 30 3 1) ≡ guest 3 12 2 1 30 5 6
+  -- several ticks that use the same
+  pub charge-own : charge 2 (runs 1 ownBudget) (at10 (of 0 0 5 ∷ of 1 3 11 ∷ []) (spare 12 0 2 ∷ [])) ≡ then 12 (of 0 0 5 ∷ guest 3 12 1 1 11 9 8 ∷ []) (spare 12 0 2 ∷ []) 4 5
+  pub charge-spare : charge 2 (runs 1 (spareOf 0)) (at10 (of 0 0 5 ∷ of 1 3 11 ∷ []) (spare 11 0 3 ∷ [])) ≡ then 12 (of 0 0 5 ∷ guest 3 12 1 3 11 7 10 ∷ []) (spare 11 0 1 ∷ []) 4 5
+  pub charge-burns : charge 2 (burns 0) (at10 (of 0 0 5 ∷ []) (spare 11 0 3 ∷ [])) ≡ then 12 (of 0 0 5 ∷ []) (spare 11 0 1 ∷ []) 6 5
+  pub charge-nothing : charge 2 nothing (at10 (of 0 0 5 ∷ []) []) ≡ then 12 (of 0 0 5 ∷ []) [] 4 7
   pub tick-own : tick (at10 (of 0 0 5 ∷ of 1 2 11 ∷ []) (spare 12 0 2 ∷ [])) ≡ then 11 (of 0 0 5 ∷ guest 3 12 1 1 11 8 8 ∷ []) (spare 12 0 2 ∷ []) 4 5
   pub tick-spare : tick (at10 (of 0 0 5 ∷ of 1 2 11 ∷ []) (spare 11 0 2 ∷ [])) ≡ then 11 (of 0 0 5 ∷ guest 3 12 1 2 11 7 9 ∷ []) (spare 11 0 1 ∷ []) 4 5
   pub tick-last-of-spare : tick (at10 (of 0 0 5 ∷ of 1 2 11 ∷ []) (spare 11 0 1 ∷ [])) ≡ then 11 (of 0 0 5 ∷ guest 3 12 1 2 11 7 9 ∷ []) [] 4 5
@@ -143,11 +155,11 @@ pub record TickHeld : Type 0 where
 -- Ask and Margin
 pub record AskHeld : Type 0 where
   -- "tells what the next tick would do, after its step 1"
-  pub ask-own : ask (at10 (of 1 2 11 ∷ []) []) ≡ onOwn 0 11 2
-  pub ask-renewed : ask (at10 (of 1 0 11 ∷ []) []) ≡ onOwn 0 23 3
-  pub ask-spare : ask (at10 (of 0 0 5 ∷ of 1 0 11 ∷ []) (spare 23 0 2 ∷ [])) ≡ onSpare 1 0 23 2
-  pub ask-burns : ask (at10 (of 0 0 5 ∷ []) (spare 23 0 2 ∷ [])) ≡ burning 0 23 2
-  pub ask-rests : ask (at10 (of 0 0 5 ∷ []) []) ≡ nothing
+  pub ask-own : ask (at10 (of 1 2 11 ∷ []) []) ≡ portion (runs 0 ownBudget) 11 (limited 2)
+  pub ask-renewed : ask (at10 (of 1 0 11 ∷ []) []) ≡ portion (runs 0 ownBudget) 23 (limited 3)
+  pub ask-spare : ask (at10 (of 0 0 5 ∷ of 1 0 11 ∷ []) (spare 23 0 2 ∷ [])) ≡ portion (runs 1 (spareOf 0)) 23 (limited 2)
+  pub ask-burns : ask (at10 (of 0 0 5 ∷ []) (spare 23 0 2 ∷ [])) ≡ portion (burns 0) 23 (limited 2)
+  pub ask-rests : ask (at10 (of 0 0 5 ∷ []) []) ≡ portion nothing 0 endless
   -- "its deadline less the present tick; it is below zero for an idle guest whose deadline has passed"
   pub margin-above : margin 1 (at10 (of 0 0 5 ∷ of 1 1 13 ∷ []) []) ≡ pos 3
   pub margin-at : margin 1 (at10 (of 0 0 5 ∷ of 1 1 10 ∷ []) []) ≡ pos 0

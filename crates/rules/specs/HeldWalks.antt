@@ -10,10 +10,10 @@ use Rattle.rules.specs.declared.Used.{Used}
 use Rattle.rules.specs.declared.Used.the-variants.{Own, SpareOf, Burned, Idle}
 use Rattle.rules.specs.declared.Portion.{Portion as PortionPlace}
 use Rattle.rules.specs.Model.{guest, spare}
-use Rattle.rules.specs.Steps.{onOwn, onSpare, burning, nothing}
+use Rattle.rules.specs.Steps.{ownBudget, spareOf, runs, burns, nothing, limited, endless}
 use Rattle.rules.specs.Places.{packed}
 use Rattle.rules.specs.Calls.{arrives, finishes, advances, asks, asksActive, asksMargin}
-use Rattle.rules.specs.Lines.{own, spareOf, burned, idle, line, useOf, ticksOn, lines, linesOf, listing}
+use Rattle.rules.specs.Lines.{line, ticksOn, lines, linesOf, listing}
 use Rattle.rules.specs.Walks.{ticksIn, usedOf, useIn, noPortion, walkLines, walkState, walkLeft, Walked}
 use Rattle.rules.specs.Samples.{running, resting, leftovers, sampleModel, sample, lone}
 use Rattle.rules.specs.HeldSteps.{of, at10, then}
@@ -24,29 +24,28 @@ portionIn first end used = record { first = first; end = end; used = used }
 
 -- "one line per portion"
 pub record LinesHeld : Type 0 where
-  pub uses : map useOf (onOwn 1 2 3 ∷ onSpare 1 4 2 3 ∷ burning 4 2 3 ∷ nothing ∷ []) ≡ own 1 ∷ spareOf 1 4 ∷ burned 4 ∷ idle ∷ []
   -- what is left of k ticks or of the span ends a portion; nothing to do has no end
-  pub cut : map (ticksOn 3) (onOwn 1 2 4 ∷ onSpare 1 4 2 4 ∷ burning 4 2 4 ∷ nothing ∷ []) ≡ 3 ∷ 3 ∷ 3 ∷ 3 ∷ []
-  pub spent : map (ticksOn 5) (onOwn 1 2 4 ∷ onSpare 1 4 2 4 ∷ burning 4 2 4 ∷ nothing ∷ []) ≡ 4 ∷ 4 ∷ 4 ∷ 5 ∷ []
+  pub cut : map (ticksOn 3) (limited 4 ∷ endless ∷ []) ≡ 3 ∷ 3 ∷ []
+  pub spent : map (ticksOn 5) (limited 4 ∷ endless ∷ []) ≡ 4 ∷ 5 ∷ []
   -- "each next spare, even of the same owner" is a new portion
-  pub spares : linesOf (advances 7) sample ≡ line 10 14 (spareOf 0 1) ∷ line 14 15 (spareOf 0 1) ∷ line 15 17 (spareOf 0 0) ∷ []
+  pub spares : linesOf (advances 7) sample ≡ line 10 14 (runs 0 (spareOf 1)) ∷ line 14 15 (runs 0 (spareOf 1)) ∷ line 15 17 (runs 0 (spareOf 0)) ∷ []
   -- "A renewed budget is a new portion"
-  pub budgets : lines 9 5 (at10 (of 1 2 20 ∷ []) []) ≡ line 10 12 (own 0) ∷ line 12 15 (own 0) ∷ []
-  pub idles : lines 9 5 (at10 (of 0 0 20 ∷ []) (spare 20 0 2 ∷ [])) ≡ line 10 12 (burned 0) ∷ line 12 15 idle ∷ []
+  pub budgets : lines 9 5 (at10 (of 1 2 20 ∷ []) []) ≡ line 10 12 (runs 0 ownBudget) ∷ line 12 15 (runs 0 ownBudget) ∷ []
+  pub idles : lines 9 5 (at10 (of 0 0 20 ∷ []) (spare 20 0 2 ∷ [])) ≡ line 10 12 (burns 0) ∷ line 12 15 nothing ∷ []
   -- at most so many of them
-  pub most : lines 1 7 sampleModel ≡ line 10 14 (spareOf 0 1) ∷ []
+  pub most : lines 1 7 sampleModel ≡ line 10 14 (runs 0 (spareOf 1)) ∷ []
   -- "an `R` of 0 prints none", a refused one too, and no other call has any
   pub none-printed : linesOf (advances 0) sample ≡ []
   pub refused : linesOf (advances 1) (lone 1099511627776 0 0 0) ≡ []
-  pub to-the-end : linesOf (advances 5) (lone 1099511627771 0 0 0) ≡ line 1099511627771 1099511627776 idle ∷ []
+  pub to-the-end : linesOf (advances 5) (lone 1099511627771 0 0 0) ≡ line 1099511627771 1099511627776 nothing ∷ []
   pub other-calls : map (λ c. linesOf c sample) (arrives 1 ∷ finishes 0 ∷ asks ∷ asksActive ∷ asksMargin 0 ∷ []) ≡ [] ∷ [] ∷ [] ∷ [] ∷ [] ∷ []
   -- "Lines of two `R` commands are not joined"
-  pub not-joined : listing (advances 1 ∷ arrives 0 ∷ advances 2 ∷ []) sample ≡ line 10 11 (spareOf 0 1) ∷ line 11 13 (spareOf 0 1) ∷ []
+  pub not-joined : listing (advances 1 ∷ arrives 0 ∷ advances 2 ∷ []) sample ≡ line 10 11 (runs 0 (spareOf 1)) ∷ line 11 13 (runs 0 (spareOf 1)) ∷ []
 
 -- a walk
 pub record WalksHeld : Type 0 where
-  pub used : map usedOf (own 1 ∷ spareOf 1 4 ∷ burned 4 ∷ idle ∷ []) ≡ Own 1 ∷ SpareOf 1 4 ∷ Burned 4 ∷ Idle ∷ []
-  pub says : map useIn (Own 1 ∷ SpareOf 1 4 ∷ Burned 4 ∷ Idle ∷ []) ≡ own 1 ∷ spareOf 1 4 ∷ burned 4 ∷ idle ∷ []
+  pub used : map usedOf (runs 1 ownBudget ∷ runs 1 (spareOf 4) ∷ burns 4 ∷ nothing ∷ []) ≡ Own 1 ∷ SpareOf 1 4 ∷ Burned 4 ∷ Idle ∷ []
+  pub says : map useIn (Own 1 ∷ SpareOf 1 4 ∷ Burned 4 ∷ Idle ∷ []) ≡ runs 1 ownBudget ∷ runs 1 (spareOf 4) ∷ burns 4 ∷ nothing ∷ []
   pub empty : noPortion ≡ portionIn 0 0 Idle
   -- the ticks of the first portions
   pub ticks : (ticksIn 0 7 sampleModel ∷ ticksIn 1 7 sampleModel ∷ ticksIn 2 7 sampleModel ∷ ticksIn 3 7 sampleModel ∷ ticksIn 3 0 sampleModel ∷ []) ≡ 0 ∷ 4 ∷ 5 ∷ 7 ∷ 0 ∷ []
