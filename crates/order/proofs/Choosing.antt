@@ -18,7 +18,7 @@ use Rattle.rules.specs.declared.Entry.{Entry}
 use Rattle.rules.specs.declared.Guest.{Guest as GuestPlace}
 use Rattle.rules.specs.Model.{Guest, guest, bitOf, maskOf, activeCount}
 use Rattle.rules.specs.Places.{guestOf, noGuestPlace}
-use Rattle.rules.specs.Steps.{Pick, nobody, runs, ready, sooner, earliest}
+use Rattle.rules.specs.Steps.{Pick, nobody, picked, ready, sooner, earliest}
 use Rattle.promises.proofs.Mask.{bit-small, ones-of-mask}
 use Rattle.order.specs.Choice.{shown, inUse, beats}
 
@@ -28,7 +28,7 @@ pub bit-active : (j : ℕ) → (j ≡ 0 → ⊥) → 1 ≡ bitOf (guest 0 0 j 0 
 bit-active zero h = absurd (h refl)
 bit-active (suc j) h = refl
 
-pub ready-active : (i j c d : ℕ) → (j ≡ 0 → ⊥) → runs i d c ≡ ready i (guest 0 0 j c d 0 0)
+pub ready-active : (i j c d : ℕ) → (j ≡ 0 → ⊥) → picked i d c ≡ ready i (guest 0 0 j c d 0 0)
 ready-active i zero c d h = absurd (h refl)
 ready-active i (suc j) c d h = refl
 
@@ -105,27 +105,27 @@ module _ {gs : List GuestPlace} {i mask : ℕ} (m : Masked gs i mask) where
 -- ---- the choice
 
 module _ (i d c k e b : ℕ) where
-  pub first-runs : d ≤ e → runs i d c ≡ sooner (runs i d c) (runs k e b)
-  first-runs h = rw (le-leb d e h)
+  pub first-picked : d ≤ e → picked i d c ≡ sooner (picked i d c) (picked k e b)
+  first-picked h = rw (le-leb d e h)
 
-  pub second-runs : e < d → runs k e b ≡ sooner (runs i d c) (runs k e b)
-  second-runs h = rw (lt-leb d e h)
+  pub second-picked : e < d → picked k e b ≡ sooner (picked i d c) (picked k e b)
+  second-picked h = rw (lt-leb d e h)
 
 sooner-nobody : (p : Pick) → sooner p nobody ≡ p
 sooner-nobody nobody = refl
-sooner-nobody (runs i d c) = refl
+sooner-nobody (picked i d c) = refl
 
 sooner-assoc : (p q r : Pick) → sooner (sooner p q) r ≡ sooner p (sooner q r)
 sooner-assoc nobody q r = refl
-sooner-assoc (runs i d c) nobody r = refl
-sooner-assoc (runs i d c) (runs j e b) nobody = sooner-nobody (cond (leb d e) (runs i d c) (runs j e b))
-sooner-assoc (runs i d c) (runs j e b) (runs k f a) =
-    let x = runs i d c in
-    let y = runs j e b in
-    let z = runs k f a in
+sooner-assoc (picked i d c) nobody r = refl
+sooner-assoc (picked i d c) (picked j e b) nobody = sooner-nobody (cond (leb d e) (picked i d c) (picked j e b))
+sooner-assoc (picked i d c) (picked j e b) (picked k f a) =
+    let x = picked i d c in
+    let y = picked j e b in
+    let z = picked k f a in
     by-leb (λ s. sooner (cond s x y) z ≡ sooner x (cond (leb e f) y z)) d e
-    (λ h. by-leb (λ t. sooner x z ≡ sooner x (cond t y z)) e f (λ l. sym (first-runs i d c k f a (omega arith)) ∙ first-runs i d c j e b h) (λ l. refl))
-    (λ h. by-leb (λ t. cond t y z ≡ sooner x (cond t y z)) e f (λ l. second-runs i d c j e b h) (λ l. second-runs i d c k f a (omega arith)))
+    (λ h. by-leb (λ t. sooner x z ≡ sooner x (cond t y z)) e f (λ l. sym (first-picked i d c k f a (omega arith)) ∙ first-picked i d c j e b h) (λ l. refl))
+    (λ h. by-leb (λ t. cond t y z ≡ sooner x (cond t y z)) e f (λ l. second-picked i d c j e b h) (λ l. second-picked i d c k f a (omega arith)))
 
 lowest-step : (digits : ℕ) (g : Guest) (gs : List Guest) → trailingZeros (suc digits) (maskOf (g ∷ gs)) ≡ under (bitOf g) (trailingZeros digits (maskOf gs))
 unfolding trailingZeros
@@ -168,19 +168,8 @@ better-by i k b g (suc m) (suc n) =
     let q = with-jobs g (suc n) in
     rw (eqb·suc-zero n, eqb·suc-zero m)
     (by-ltb (λ t. ready (cond t k i) (shown (cond t q p)) ≡ sooner (ready i (shown p)) (ready k (shown q))) (g .deadline) (b .deadline)
-    (λ l. second-runs i (b .deadline) (b .left) k (g .deadline) (g .left) l)
-    (λ l. first-runs i (b .deadline) (b .left) k (g .deadline) (g .left) l))
-
--- what decides between two guests, as the code asks it
-module _ (i best : ℕ) (b g : GuestPlace) (active : g .jobs ≡ 0 → ⊥) where
-  pub beats-idle : b .jobs ≡ 0 → i ≡ cond (beats b g) i best
-  beats-idle e = rw (ne-eqb (g .jobs) 0 active, e)
-
-  pub beats-later : (b .jobs ≡ 0 → ⊥) → g .deadline < b .deadline → i ≡ cond (beats b g) i best
-  beats-later n l = rw (ne-eqb (g .jobs) 0 active, ne-eqb (b .jobs) 0 n, lt-ltb (g .deadline) (b .deadline) l)
-
-  pub beats-not : (b .jobs ≡ 0 → ⊥) → b .deadline ≤ g .deadline → best ≡ cond (beats b g) i best
-  beats-not n l = rw (ne-eqb (g .jobs) 0 active, ne-eqb (b .jobs) 0 n, le-ltb (g .deadline) (b .deadline) l)
+    (λ l. second-picked i (b .deadline) (b .left) k (g .deadline) (g .left) l)
+    (λ l. first-picked i (b .deadline) (b .left) k (g .deadline) (g .left) l))
 
 -- guest i, and an empty place where there is none
 abbrev pub here : List GuestPlace → ℕ → GuestPlace
@@ -219,10 +208,6 @@ module _ (gs : List GuestPlace) (n : ℕ) (inside : n ≤ length gs) where
     searched-end h =
         let passed : length (inUse n gs) ≤ i = omega (arith, length-in-use n gs inside) in
         sym (sooner-nobody (ready best (shown (here gs best)))) ∙ rw (drop-of-length-le (inUse n gs) passed) at (s .so)
-
-  -- and none of them where there is none
-  pub searched-none : (from : ℕ) → n ≤ from → nobody ≡ earliest from (drop from (inUse n gs))
-  searched-none from h = let passed : length (inUse n gs) ≤ from = omega (arith, length-in-use n gs inside) in rw (drop-of-length-le (inUse n gs) passed)
 
 -- either of two places is a place
 pub either-inside : (t : Bool) (i k : ℕ) {n next : ℕ} → next ≡ cond t i k → i < n → k < n → next < n

@@ -1,4 +1,4 @@
--- What the mask and the choice read of the guests, and the rules' pick for what the choice answers.
+-- What the mask and the choice read of the guests, and the rules' pick for what the code answers.
 use mathlib.Core.Bool.{Bool, not, _&&_, _||_}
 use mathlib.Core.List.{List, map}
 use Prim.Native.Nat.{ℕ}
@@ -7,10 +7,10 @@ use lib.ListN.{take}
 use Rattle.rules.specs.declared.Guest.{Guest as GuestPlace}
 use Rattle.rules.specs.Model.{Guest}
 use Rattle.rules.specs.Places.{guestOf}
-use Rattle.rules.specs.Steps.{Pick, nobody, runs}
+use Rattle.rules.specs.Steps.{Pick, nobody, picked}
 use Rattle.rules.specs.Table.{noEntry}
-use Rattle.order.specs.declared.Chosen.{Chosen}
-use Rattle.order.specs.declared.Chosen.the-variants.{Nobody, Runs}
+use Rattle.order.specs.declared.Pick.{Pick as DeclaredPick}
+use Rattle.order.specs.declared.Pick.the-variants.{Nobody, Picked}
 
 -- a guest without its entry in the table: who runs does not depend on Q and T
 abbrev pub shown : GuestPlace → Guest
@@ -24,7 +24,7 @@ inUse n gs = map shown (take n gs)
 abbrev pub beats : GuestPlace → GuestPlace → Bool
 beats b g = not (eqb (g .jobs) 0) && (eqb (b .jobs) 0 || ltb (g .deadline) (b .deadline))
 
--- the rules' pick that the code's choice stands for
-unfoldable pub pickOf : Chosen → Pick
+-- the rules' pick that the code's pick stands for
+unfoldable pub pickOf : DeclaredPick → Pick
 pickOf Nobody = nobody
-pickOf (Runs i d c) = runs i d c
+pickOf (Picked i d c) = picked i d c

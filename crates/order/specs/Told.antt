@@ -4,14 +4,13 @@ use mathlib.Core.Bool.{Bool}
 use mathlib.Core.List.{List}
 use Prim.Native.Nat.{ℕ, _^_, _<_}
 use lib.Count.{ones, trailingZeros}
-use lib.ListN.{drop}
 use Rattle.rules.specs.declared.Guest.{Guest as GuestPlace}
 use Rattle.rules.specs.declared.Spare.{Spare as SparePlace}
 use Rattle.rules.specs.Limits.{guestPlaces}
 use Rattle.rules.specs.Model.{maskOf}
 use Rattle.rules.specs.Places.{spareOf}
-use Rattle.rules.specs.Steps.{before, ready, earliest}
-use Rattle.order.specs.declared.Chosen.{Chosen}
+use Rattle.rules.specs.Steps.{before, ready}
+use Rattle.order.specs.declared.Pick.{Pick}
 use Rattle.order.specs.Choice.{shown, inUse, pickOf}
 
 -- "in strictly rising order of (deadline, owner)": whether x stands before y
@@ -30,17 +29,9 @@ OnesTold mask r = r ≡ ones mask
 abbrev pub LowestTold : List GuestPlace → ℕ → ℕ → Type 0
 LowestTold guests count r = r ≡ trailingZeros 32 (maskOf (inUse count guests))
 
--- who runs where only guest i may
-abbrev pub ReadyTold : ℕ → GuestPlace → Chosen → Type 0
+-- guest i as it may be picked
+abbrev pub ReadyTold : ℕ → GuestPlace → Pick → Type 0
 ReadyTold i g r = pickOf r ≡ ready i (shown g)
-
--- step 2 of a tick, of the guests from number `from` up to `count`
-abbrev pub EarliestFromTold : List GuestPlace → ℕ → ℕ → Chosen → Type 0
-EarliestFromTold guests from count r = pickOf r ≡ earliest from (drop from (inUse count guests))
-
--- step 2 of a tick, of the first `count` guests: "The active guest with the smallest d runs; equal deadlines, the lowest number."
-abbrev pub EarliestTold : List GuestPlace → ℕ → Chosen → Type 0
-EarliestTold guests count r = pickOf r ≡ earliest 0 (inUse count guests)
 
 -- any two outcomes that a predicate allows are equal
 pub record OneAnswer : Type 0 where
@@ -48,7 +39,4 @@ pub record OneAnswer : Type 0 where
   pub mask : (guests : List GuestPlace) (count a b : ℕ) → MaskTold guests count a → MaskTold guests count b → a ≡ b
   pub ones : (mask a b : ℕ) → OnesTold mask a → OnesTold mask b → a ≡ b
   pub lowest : (guests : List GuestPlace) (count a b : ℕ) → LowestTold guests count a → LowestTold guests count b → a ≡ b
-  pub ready : (i : ℕ) (g : GuestPlace) (a b : Chosen) → ReadyTold i g a → ReadyTold i g b → a ≡ b
-  pub earliest-from :
-      (guests : List GuestPlace) (from count : ℕ) (a b : Chosen) → EarliestFromTold guests from count a → EarliestFromTold guests from count b → a ≡ b
-  pub earliest : (guests : List GuestPlace) (count : ℕ) (a b : Chosen) → EarliestTold guests count a → EarliestTold guests count b → a ≡ b
+  pub ready : (i : ℕ) (g : GuestPlace) (a b : Pick) → ReadyTold i g a → ReadyTold i g b → a ≡ b

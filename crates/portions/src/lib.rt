@@ -2,7 +2,7 @@
 ghost use mathlib.Core.Path.{_≡_};
 ghost use Prim.Native.Nat.{min};
 ghost use Rattle.portions.specs.Charges.{removedBy, blank, runCharge, NextTold, ChargeTold};
-use order::Chosen;
+use order::Pick;
 use rules::Next;
 use rules::Source;
 use rules::Spare;
@@ -20,11 +20,11 @@ pub struct Charge {
     pub idle: u64,
 }
 
-// What the chosen guest and the first spare, if there is any, make the next tick use.
-pub fn next_of(chosen: Chosen, first: Spare, any: bool) -> Next
-    ensures { λ r. ⌜ NextTold chosen first any r ⌝ }
+// What the picked guest and the first spare, if there is any, make the next tick use.
+pub fn next_of(pick: Pick, first: Spare, any: bool) -> Next
+    ensures { λ r. ⌜ NextTold pick first any r ⌝ }
 {
-    let Chosen::Runs(i, d, c) = chosen else {
+    let Pick::Picked(i, d, c) = pick else {
         if any {
             return Next::Burn(first.owner, first.deadline, first.capacity);
         }

@@ -88,7 +88,7 @@ bare-ran n k (guest Q T jobs c d own lent) = refl
 left-ran : (n k : ℕ) (g : Guest) → leftOf (ran n k g) ≡ leftOf g - n
 left-ran n k (guest Q T jobs c d own lent) = refl
 
-limited-same : (a b : ℕ) → limited a ≡ limited b → a ≡ b
+pub limited-same : (a b : ℕ) → limited a ≡ limited b → a ≡ b
 limited-same a b e = cc
 
 -- who ran is again the earliest, with the rest of its budget

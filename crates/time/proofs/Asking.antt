@@ -15,7 +15,7 @@ use Rattle.rules.specs.declared.State.{State}
 use Rattle.rules.specs.Calls.{told, askRows, portionOf, AskedFor}
 use Rattle.rules.specs.Places.{model, noSparePlace}
 use Rattle.rules.specs.Sound.{sound}
-use Rattle.rules.specs.Steps.{renew, renewed, Pick, earliest, Portion, nothing, portion, next, ask}
+use Rattle.rules.specs.Steps.{renew, renewed, Pick, earliest, Portion, nothingToDo, portionFor, next, ask}
 use Rattle.promises.proofs.Facts.{points, guests-count}
 use Rattle.order.specs.Choice.{inUse}
 use Rattle.portions.specs.Charges.{firstOf}
@@ -26,19 +26,19 @@ use Rattle.time.proofs.Turning.{earliest-in, portion-in}
 
 module _ (s : State) where
   pub ask-refused : sound s ≡ false → AskedFor s (record { answer = Refused NotSound; next = Nothing })
-  ask-refused h = let e = gives-1 s [] h in record { answer = e; next = told-nothing ask nothing s (askRows s) NotSound e }
+  ask-refused h = let e = gives-1 s [] h in record { answer = e; next = told-nothing ask nothingToDo s (askRows s) NotSound e }
 
   module _ (h : sound s ≡ true) where
     pub ask-told : {x : Next} → portionOf x ≡ ask (model s) → AskedFor s (record { answer = Went; next = x })
-    ask-told e = let z = past-1 s [] h refl in record { answer = z; next = e ∙ ap (λ (n : ℕ). told n ask nothing s) z }
+    ask-told e = let z = past-1 s [] h refl in record { answer = z; next = e ∙ ap (λ (n : ℕ). told n ask nothingToDo s) z }
 
     -- the code's choice and its first spare are the rules'
     pub ask-next : {gs : List GuestPlace} {q : Pick} {p : Portion} → gs ≡ placed (renewed (model s) .guests) → q ≡ earliest 0 (inUse (s .table .count) gs)
-        → p ≡ portion q (firstOf (ltb 0 (s .count)) (getD (s .spares) 0 noSparePlace)) → p ≡ ask (model s)
+        → p ≡ portionFor q (firstOf (ltb 0 (s .count)) (getD (s .spares) 0 noSparePlace)) → p ≡ ask (model s)
     unfolding ask next renewed model
     ask-next eg eq ep =
         let m = model s in
         let long : length (renewed m .guests) ≡ s .table .count = length-map (m .guests) renew ∙ guests-count s h in
         ep
-        ∙ ap (λ (q : Pick). portion q (firstOf (ltb 0 (s .count)) (getD (s .spares) 0 noSparePlace))) (eq ∙ earliest-in (s .table .count) (renewed m .guests) eg long)
+        ∙ ap (λ (q : Pick). portionFor q (firstOf (ltb 0 (s .count)) (getD (s .spares) 0 noSparePlace))) (eq ∙ earliest-in (s .table .count) (renewed m .guests) eg long)
         ∙ portion-in (s .spares) 0 (s .count) 0 (points s h .few) (spares-long s h) (λ _. refl) (omega arith) (earliest 0 (renewed m .guests))

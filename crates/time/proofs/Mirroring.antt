@@ -5,16 +5,21 @@ use mathlib.Core.List.{List, [], _∷_, _++_, map, map-append, append-nil}
 use Prim.Native.Nat.{ℕ, zero, suc, _+_, _-_, _≤_, _<_}
 use native.Mathlib.Numerals.{add-one}
 use native.Mathlib.Omega.{arith}
+use lib.Count.{trailingZeros}
 use lib.Dec.{ltb, eqb, eqb·suc-zero}
-use lib.ListN.{length, getD, take, set, replicate, length-map}
+use lib.ListN.{length, getD, take, drop, set, replicate, length-map}
 use lib.Seq.{take-suc, take-all, length-take-le}
 use borrow.Author.Tests.{lt-ltb, le-ltb}
 use Rattle.laws.specs.Lists.{padded}
+use Rattle.laws.proofs.Cases.{by-ltb}
 use Rattle.laws.proofs.Places.{set-padded}
 use Rattle.rules.specs.declared.Guest.{Guest as GuestPlace}
 use Rattle.rules.specs.Limits.{guestPlaces}
+use Rattle.rules.specs.Model.{Guest, maskOf}
 use Rattle.rules.specs.Places.{noGuestPlace}
-use Rattle.time.specs.Dues.{never, dueAt, Mirrors}
+use Rattle.rules.specs.Steps.{earliest}
+use Rattle.order.proofs.Choosing.{lowest-first}
+use Rattle.time.specs.Dues.{never, dueAt, AllDue, Mirrors}
 
 -- ---- filled in
 
@@ -55,8 +60,21 @@ due-at (g ∷ gs) zero h = refl
 due-at (g ∷ gs) (suc i) h = due-at gs i (omega arith)
 
 -- where no deadline is that late
-pub mirrors : (gs : List GuestPlace) {ds : List ℕ} → ds ≡ map dueAt gs → ((i : ℕ) → i < length gs → getD gs i noGuestPlace .deadline < never) → Mirrors ds gs
+pub mirrors : (gs : List GuestPlace) {ds : List ℕ} → ds ≡ map dueAt gs → AllDue gs → Mirrors ds gs
 mirrors gs e h i k l m =
     let b = getD gs i noGuestPlace in
     let g = getD gs k noGuestPlace in
     rw (e, due-at gs i l, due-at gs k m) (due-beats b g (b .jobs) (g .jobs) (h i l) (h k m))
+
+-- ---- where the search starts
+
+module _ (count lowest from : ℕ) (start : (lowest < count → from ≡ lowest) × (count ≤ lowest → from ≡ 0)) where
+  -- at the lowest active guest, or anywhere where there is none
+  pub starts-first : (gs : List Guest) → lowest ≡ trailingZeros 32 (maskOf gs) → length gs ≤ 32 → earliest from (drop from gs) ≡ earliest 0 gs
+  starts-first gs e l =
+      by-ltb (λ _. earliest from (drop from gs) ≡ earliest 0 gs) lowest count
+      (λ h. lowest-first 32 gs (start .0 h ∙ e) l)
+      (λ h. rw (start .1 h))
+
+  pub starts-inside : 0 < count → from < count
+  starts-inside some = by-ltb (λ _. from < count) lowest count (λ l. omega (arith, start .0 l)) (λ l. omega (arith, start .1 l))

@@ -17,21 +17,26 @@ use Rattle.laws.proofs.Places.{length-padded, take-padded, set-padded}
 use Rattle.rules.specs.declared.Entry.{Entry}
 use Rattle.rules.specs.declared.Guest.{Guest as GuestPlace}
 use Rattle.rules.specs.declared.Spare.{Spare as SparePlace}
+use Rattle.rules.specs.declared.Next.{Next}
 use Rattle.rules.specs.declared.Portion.{Portion as PortionPlace}
 use Rattle.rules.specs.declared.State.{State}
 use Rattle.rules.specs.declared.Walk.{Walk}
 use Rattle.rules.specs.Limits.{guestPlaces, sparePlaces, portionPlaces, lastTick, longestFrame, deadlineBound}
-use Rattle.rules.specs.Lines.{Line, line, useOf, ticksOn, lineFor, lines}
+use Rattle.rules.specs.Lines.{Line, line, ticksOn, lineFor, lines}
+use Rattle.rules.specs.Calls.{portionOf}
 use Rattle.rules.specs.Model.{Guest, guest, Spare, spare, Model, bitOf, maskOf, leftOf, deadlineOf, talliesOf, capacityOf, noGuest, guestAt, spareAt}
 use Rattle.rules.specs.Places.{guestOf, spareOf, model, entryOf, guestPlace, sparePlace, noGuestPlace, noSparePlace, packed}
 use Rattle.rules.specs.Sound.{sound}
-use Rattle.rules.specs.Steps.{but, renew, renewed, Pick, nobody, runs, ready, earliest, Portion, portion, next, advance, ask}
+use Rattle.rules.specs.Steps.{but, renew, renewed, Pick, nobody, picked, ready, earliest, useOf, spanOf, portionFor, ran, advance, ask}
+use Rattle.rules.specs.Steps as Steps
 use Rattle.rules.specs.Table.{noEntry}
 use Rattle.rules.specs.Walks.{ticksIn, portionPlace, noPortion, Walked}
+use Rattle.promises.specs.Promises.{Uses}
+use Rattle.promises.specs.Spans.{Within}
 use Rattle.promises.proofs.Calling.{MayAdvance, advance-allowed}
 use Rattle.promises.proofs.Packing.{spare-places}
 use Rattle.promises.proofs.Facts.{GuestGood, Sane, points, sane-model, guests-count}
-use Rattle.promises.proofs.Keeping.{entry-renew, tallies-renew, bit-renew}
+use Rattle.promises.proofs.Keeping.{entry-renew, tallies-renew, bit-renew, entry-ran, bit-ran}
 use Rattle.promises.proofs.Spans.{settled, ask-uses, span-positive, at-once}
 use Rattle.promises.proofs.Ticking.{advance-add, advance-sane}
 use Rattle.promises.proofs.Walks.{ticks-in-le, lines-more, ticks-more, ticks-enough, lines-enough, walk-lines, walk-left, walk-state}
@@ -41,10 +46,10 @@ use Rattle.portions.specs.declared.Charge.{Charge}
 use Rattle.portions.specs.Charges.{firstOf, chargeOf}
 use Rattle.time.specs.Charges.{ranPlace, spentPlace}
 use Rattle.time.specs.declared.walking.Clock.{Clock}
-use Rattle.time.specs.Dues.{never, dueAt, SoonestFrom}
+use Rattle.time.specs.Dues.{dueAt, AllDue, SoonestFrom}
 use Rattle.time.specs.Clocks.{placed, listed, begunFrom, startedAt, laterBy, stateOf, walkOf}
-use Rattle.portions.proofs.Charging.{ranBy, lostBy, made, Fits, charge-fits}
-use Rattle.time.proofs.Mirroring.{mirrors}
+use Rattle.portions.proofs.Charging.{lostBy, made, Fits, charge-fits}
+use Rattle.time.proofs.Mirroring.{mirrors, starts-first, starts-inside}
 use Rattle.time.proofs.Placing.{placed-at, placed-changed, table-good, packed-fields, spares-long, guest-here, guest-good}
 
 pub begun-some : (k : ℕ) (m : Model) → (k ≡ 0 → ⊥) → begunFrom k m ≡ renewed m
@@ -124,9 +129,9 @@ earliest-in n gs {guests} e l =
     ∙ ap (λ (ps : List GuestPlace). earliest 0 (map shown ps)) (take-padded guestPlaces noGuestPlace n (map guestPlace gs) (length-map gs guestPlace ∙ l))
     ∙ earliest-placed 0 gs
 
-portion-first : (q : Pick) (x : Spare) (ss : List Spare) → portion q (x ∷ []) ≡ portion q (x ∷ ss)
+portion-first : (q : Pick) (x : Spare) (ss : List Spare) → portionFor q (x ∷ []) ≡ portionFor q (x ∷ ss)
 portion-first nobody (spare d owner c) ss = refl
-portion-first (runs i d c) (spare e owner b) ss = refl
+portion-first (picked i d c) (spare e owner b) ss = refl
 
 map-set : {A B : Type 0} (f : A → B) (xs : List A) (i : ℕ) (x : A) → map f (set xs i x) ≡ set (map f xs) i (f x)
 map-set f [] i x = refl
@@ -156,11 +161,11 @@ module _ (ss : List SparePlace) (head count at : ℕ) (few : count ≤ sparePlac
   first-none : count ≤ head → map spareOf (slice head count ss) ≡ []
   first-none h = let e : head ≡ count = omega arith in rw (e, slice-empty count ss)
 
-  pub portion-in : (q : Pick) → portion q (firstOf (ltb head count) X) ≡ portion q (map spareOf (slice head count ss))
+  pub portion-in : (q : Pick) → portionFor q (firstOf (ltb head count) X) ≡ portionFor q (map spareOf (slice head count ss))
   portion-in q =
-      by-ltb (λ t. portion q (firstOf t X) ≡ portion q (map spareOf (slice head count ss))) head count
-      (λ h. portion-first q (spareOf X) _ ∙ ap (portion q) (sym (first-cons h)))
-      (λ h. ap (portion q) (sym (first-none h)))
+      by-ltb (λ t. portionFor q (firstOf t X) ≡ portionFor q (map spareOf (slice head count ss))) head count
+      (λ h. portion-first q (spareOf X) _ ∙ ap (portionFor q) (sym (first-cons h)))
+      (λ h. ap (portionFor q) (sym (first-none h)))
 
   module _ (c : Charge) (fits : c .spent ≤ capacityOf (spareAt 0 (map spareOf (slice head count ss)))) (fewer : c .removed ≤ length (map spareOf (slice head count ss))) where
     pub spent-in : c .spent ≤ X .capacity
@@ -205,14 +210,7 @@ settled-one i none = refl
 settled-one zero (each e es) = rw e
 settled-one (suc i) (each e es) = rw (settled-one i es)
 
-entry-ran : (c : Charge) (g : Guest) → entryOf (ranBy c g) ≡ entryOf g
-entry-ran c (guest Q T jobs l d own lent) = refl
-
-bit-ran : (c : Charge) (g : Guest) → bitOf (ranBy c g) ≡ bitOf g
-bit-ran c (guest Q T zero l d own lent) = refl
-bit-ran c (guest Q T (suc jobs) l d own lent) = refl
-
-place-ran : (c : Charge) (g : Guest) → ranPlace c (guestPlace g) ≡ guestPlace (ranBy c g)
+place-ran : (c : Charge) (g : Guest) → ranPlace c (guestPlace g) ≡ guestPlace (ran (c .own) (c .lent) g)
 place-ran c (guest Q T jobs l d own lent) = refl
 
 -- a renewed deadline is one period later at most
@@ -229,6 +227,14 @@ placed-early [] (suc rest) (suc i) none = placed-early [] rest i none
 placed-early (guest Q T jobs c d own lent ∷ gs) rest zero (each e es) = e
 placed-early (g ∷ gs) rest (suc i) (each e es) = placed-early gs rest i es
 
+-- so each is a number that comes before `never`
+pub placed-due : (gs : List Guest) → All (λ g. deadlineOf g ≤ 2 ^ 62) gs → {ps : List GuestPlace} → ps ≡ placed gs → AllDue ps
+placed-due gs early e i l = rw e (omega (arith, placed-early gs (guestPlaces - length (map guestPlace gs)) i early))
+
+pub renewed-early : (m : Model) → Sane m → All (λ g. deadlineOf g ≤ 2 ^ 62) (renewed m .guests)
+unfolding renewed
+renewed-early m s = all-map (λ g. deadlineOf g ≤ 2 ^ 62) renew (λ g p. omega (arith, early-renew (deadlineBound (m .now)) g p, s .time)) (s .guests)
+
 -- one tally is no more than all
 tally-at : (i : ℕ) (gs : List Guest) → i < length gs → talliesOf (guestAt i gs) ≤ total talliesOf gs
 tally-at i [] h = absurd (omega arith)
@@ -243,7 +249,7 @@ place-tallies : (g : Guest) → guestPlace g .own + guestPlace g .lent ≡ talli
 place-tallies (guest Q T jobs c d own lent) = refl
 
 -- one portion of some ticks
-ticks-one : (k : ℕ) (m : Model) → 0 < k → ticksIn 1 k m ≡ ticksOn k (ask m)
+ticks-one : (k : ℕ) (m : Model) → 0 < k → ticksIn 1 k m ≡ ticksOn k (spanOf (ask m))
 unfolding ticksIn
 ticks-one zero m h = absurd (omega arith)
 ticks-one (suc k) m h = omega arith
@@ -277,8 +283,8 @@ pub record Walking (s : State) (k from : ℕ) (ds : List ℕ) (ps : List GuestPl
   pub counted : length (lines count k (model s)) ≡ count
   pub goes : more ≡ ltb 0 (h .left) && ltb count portionPlaces
 
--- what one portion gives the code: r is the guest that ran last, renewed, and `due` its deadline; p is what comes next, and g what is charged
-pub record Turned (s : State) (k from : ℕ) (ds : List ℕ) (ps : List GuestPlace) (ss : List SparePlace) (qs : List PortionPlace) (c : Clock) (count : ℕ) (r : GuestPlace) (due at : ℕ) (p : Portion) (g : Charge) : Type 0 where
+-- what one portion gives the code: r is the guest that ran last, renewed, and `due` its deadline; `next` is what comes next, and g what is charged
+pub record Turned (s : State) (k from : ℕ) (ds : List ℕ) (ps : List GuestPlace) (ss : List SparePlace) (qs : List PortionPlace) (c : Clock) (count : ℕ) (r : GuestPlace) (due at : ℕ) (next : Next) (g : Charge) : Type 0 where
   -- the guest that is charged, and the first spare
   pub inside : g .guest < s .table .count
   pub ran :
@@ -289,7 +295,7 @@ pub record Turned (s : State) (k from : ℕ) (ds : List ℕ) (ps : List GuestPla
   pub later : (g .ticks ≤ c .left) × (c .now + g .ticks < 2 ^ 64) × (c .burned + g .burned < 2 ^ 64) × (c .idle + g .idle < 2 ^ 64) × (c .head + g .removed < 2 ^ 64)
   pub more :
       {a : GuestPlace} {y : SparePlace} {b : PortionPlace} {d : Clock} {more : Bool} → a ≡ ranPlace g (getD (set ps (c .last) r) (g .guest) noGuestPlace)
-      → y ≡ spentPlace g (getD ss at noSparePlace) → b ≡ portionPlace (line (c .now) (c .now + g .ticks) (useOf p)) → d ≡ laterBy g c
+      → y ≡ spentPlace g (getD ss at noSparePlace) → b ≡ portionPlace (line (c .now) (c .now + g .ticks) (useOf (portionOf next))) → d ≡ laterBy g c
       → more ≡ ltb 0 (d .left) && ltb (count + 1) portionPlaces
       → Walking s k from (set ds (c .last) due) (set (set ps (c .last) r) (g .guest) a) (set ss at y) (set qs count b) d (count + 1) more
 
@@ -312,7 +318,7 @@ module _ (s : State) (k from : ℕ) (h : sound s ≡ true) (time : s .now + k �
   begun-early : (n : ℕ) → All (λ g. deadlineOf g ≤ 2 ^ 62) (begunFrom n (model s) .guests)
   unfolding renewed model
   begun-early zero = all-imp (λ g p. omega (arith, p .early, sane-model s h .time)) (sane-model s h .guests)
-  begun-early (suc n) = all-map (λ g. deadlineOf g ≤ 2 ^ 62) renew (λ g p. omega (arith, early-renew (deadlineBound (s .now)) g p, sane-model s h .time)) (sane-model s h .guests)
+  begun-early (suc n) = renewed-early (model s) (sane-model s h)
 
   begun-exact : (n : ℕ) → (0 < n → 0 < 0) → begunFrom n (model s) ≡ model s
   begun-exact zero f = refl
@@ -321,18 +327,6 @@ module _ (s : State) (k from : ℕ) (h : sound s ≡ true) (time : s .now + k �
   begun-ready : (n : ℕ) → 0 < n → but (begunFrom n (model s)) (changed 0 renew (begunFrom n (model s) .guests)) (begunFrom n (model s) .spares) ≡ renewed (model s)
   begun-ready zero f = absurd (omega arith)
   begun-ready (suc n) f = ap (λ (gs : List Guest). but (renewed (model s)) gs (renewed (model s) .spares)) (settled-one 0 (settled (model s) (sane-model s h)))
-
-  -- the search starts at the lowest active guest, or anywhere where there is none
-  begun-first : (lowest : ℕ) (gs : List Guest) → lowest ≡ trailingZeros 32 (maskOf gs) → (lowest < s .table .count → from ≡ lowest) → (s .table .count ≤ lowest → from ≡ 0) → length gs ≤ 32 → earliest from (drop from gs) ≡ earliest 0 gs
-  begun-first lowest gs e f g l =
-      by-ltb (λ _. earliest from (drop from gs) ≡ earliest 0 gs) lowest (s .table .count)
-      (λ h. lowest-first 32 gs (f h ∙ e) l)
-      (λ h. rw (g h))
-
-  begun-inside : (lowest : ℕ) → (lowest < s .table .count → from ≡ lowest) → (s .table .count ≤ lowest → from ≡ 0) → from < s .table .count
-  begun-inside lowest f g =
-      by-ltb (λ _. from < s .table .count) lowest (s .table .count)
-      (λ l. omega (arith, f l)) (λ l. omega (arith, g l, table-good s h .count-low))
 
   pub walking-start : {ps : List GuestPlace} {qs : List PortionPlace} {c : Clock} {more : Bool} → c ≡ startedAt s k → ps ≡ placed (begunFrom k (model s) .guests) → (lowest : ℕ) → lowest ≡ trailingZeros 32 (maskOf (inUse (s .table .count) ps)) → (lowest < s .table .count → from ≡ lowest) × (s .table .count ≤ lowest → from ≡ 0) → qs ≡ replicate portionPlaces noPortion
       → more ≡ ltb 0 k && ltb 0 portionPlaces → Walking s k from (map dueAt ps) ps (s .spares) qs c 0 more
@@ -343,8 +337,8 @@ module _ (s : State) (k from : ℕ) (h : sound s ≡ true) (time : s .now + k �
         x = begunFrom k (model s);
         shows = begun-shows k e;
         early = begun-early k;
-        start = begun-inside lowest (es .0) (es .1);
-        first = λ gs same few. begun-first lowest gs (el ∙ ap (λ (n : ℕ). trailingZeros 32 n) (mask-in (s .table .count) (begunFrom k (model s) .guests) e (shown-count s h (begunFrom k (model s)) (begun-shows k e .entries)) ∙ sym same)) (es .0) (es .1) few;
+        start = starts-inside (s .table .count) lowest from es (omega (arith, table-good s h .count-low));
+        first = λ gs same few. starts-first (s .table .count) lowest from es gs (el ∙ ap (λ (n : ℕ). trailingZeros 32 n) (mask-in (s .table .count) (begunFrom k (model s) .guests) e (shown-count s h (begunFrom k (model s)) (begun-shows k e .entries)) ∙ sym same)) few;
         dues = refl;
         exact = begun-exact k;
         ready = begun-ready k;
@@ -380,10 +374,6 @@ module _ (s : State) (k from : ℕ) (h : sound s ≡ true) (time : s .now + k �
 
     same-entries : map entryOf (R .guests) ≡ map entryOf (model s .guests)
     same-entries = ap (λ (gs : List Guest). map entryOf gs) (sym guests-ready) ∙ map-changed entryOf renew entry-renew (c .last) (w .x .guests) ∙ w .shows .entries
-
-    renewed-early : All (λ g. deadlineOf g ≤ 2 ^ 62) (R .guests)
-    unfolding renewed
-    renewed-early = all-map (λ g. deadlineOf g ≤ 2 ^ 62) renew (λ g p. omega (arith, early-renew (deadlineBound (M .now)) g p, reached-sane count .time)) (reached-sane count .guests)
 
     -- the guest that ran last, renewed
     pub turn-fits : getD ps (c .last) noGuestPlace .deadline + getD (s .table .entries) (c .last) noEntry .period < 2 ^ 64
@@ -432,31 +422,29 @@ module _ (s : State) (k from : ℕ) (h : sound s ≡ true) (time : s .now + k �
         long-here : length gs₁ ≡ guestPlaces
         long-here = ap length turn-renewed ∙ length-padded guestPlaces noGuestPlace (map guestPlace (R .guests)) (omega (arith, length-map (R .guests) guestPlace, count-shown, table-good s h .count-high))
 
-        early-here : (i : ℕ) → i < length gs₁ → getD gs₁ i noGuestPlace .deadline < never
-        early-here i l = rw turn-renewed (omega (arith, placed-early (R .guests) (guestPlaces - length (map guestPlace (R .guests))) i renewed-early))
-
         chosen : q ≡ earliest 0 (R .guests)
         chosen =
             let n = s .table .count in
-            ec ∙ es gs₁ (mirrors gs₁ dues-here early-here) (omega (arith, long-here, table-good s h .count-high))
+            ec ∙ es gs₁ (mirrors gs₁ dues-here (placed-due (R .guests) (renewed-early M (reached-sane count)) turn-renewed)) (omega (arith, long-here, table-good s h .count-high))
             ∙ w .first (inUse n gs₁) (mask-in n (R .guests) turn-renewed count-shown ∙ same-active) (in-use-few 32 n gs₁ guestPlaces long-here (omega arith))
             ∙ earliest-in n (R .guests) turn-renewed count-shown
 
-        module _ {p : Portion} (en : p ≡ portion q (firstOf (ltb (c .head) (s .count)) Y)) where
+        module _ (next : Next) (en : portionOf next ≡ portionFor q (firstOf (ltb (c .head) (s .count)) Y)) where
           -- it is what the rules ask
-          turn-next : p ≡ ask M
-          unfolding ask next
+          turn-next : portionOf next ≡ ask M
+          unfolding ask Steps.next
           turn-next =
               en
-              ∙ ap (λ (q : Pick). portion q (firstOf (ltb (c .head) (s .count)) Y)) chosen
+              ∙ ap (λ (q : Pick). portionFor q (firstOf (ltb (c .head) (s .count)) Y)) chosen
               ∙ portion-in ss (c .head) (s .count) at few long ea (w .shows .head) (earliest 0 (R .guests))
-              ∙ ap (portion (earliest 0 (R .guests))) spares-shown
+              ∙ ap (portionFor (earliest 0 (R .guests))) spares-shown
 
-          module _ {g : Charge} (eg : g ≡ chargeOf (c .left) (c .last) p) where
+          module _ {g : Charge} (eg : g ≡ chargeOf (c .left) (c .last) next) where
             fits : Fits g (c .left) (ask M) R
             fits =
-                rw (eg ∙ ap (chargeOf (c .left) (c .last)) turn-next)
-                (charge-fits (c .left) (c .last) some R (omega (arith, count-shown, w .last)) (ask M) (ask-uses M) (span-positive M (reached-sane count)))
+                let uses : Uses (R .guests) (R .spares) (portionOf next) = rw turn-next (ask-uses M) in
+                let some-left : Within 1 (spanOf (portionOf next)) = rw turn-next (span-positive M (reached-sane count)) in
+                rw (eg, ← turn-next) (charge-fits (c .left) (c .last) some R (omega (arith, count-shown, w .last)) next uses some-left)
 
             turn-inside : g .guest < s .table .count
             turn-inside = omega (arith, count-shown, fits .names)
@@ -530,11 +518,11 @@ module _ (s : State) (k from : ℕ) (h : sound s ≡ true) (time : s .now + k �
             unfolding renewed
             next-shows {a} {y} e f =
                 let i = g .guest in
-                let ran : a ≡ guestPlace (ranBy g (guestAt i (R .guests))) = e ∙ ap (ranPlace g) place-here ∙ place-ran g (guestAt i (R .guests)) in
+                let stored : a ≡ guestPlace (ran (g .own) (g .lent) (guestAt i (R .guests))) = e ∙ ap (ranPlace g) place-here ∙ place-ran g (guestAt i (R .guests)) in
                 record {
                   frame = ap (λ (m : Model). m .frame) (sym (w .ready some)) ∙ w .shows .frame;
-                  entries = map-changed entryOf (ranBy g) (entry-ran g) i (R .guests) ∙ same-entries;
-                  guests = ap₂ (λ (gs : List GuestPlace) (b : GuestPlace). set gs i b) turn-renewed ran ∙ sym (placed-changed (R .guests) i (fits .names) (ranBy g));
+                  entries = map-changed entryOf (ran (g .own) (g .lent)) (entry-ran (g .own) (g .lent)) i (R .guests) ∙ same-entries;
+                  guests = ap₂ (λ (gs : List GuestPlace) (b : GuestPlace). set gs i b) turn-renewed stored ∙ sym (placed-changed (R .guests) i (fits .names) (ran (g .own) (g .lent)));
                   spares = rw f (lost-in ss (c .head) (s .count) at few long ea (w .shows .head) g spent-fits removed-fits) ∙ ap (lostBy g) spares-shown;
                   head = head-fits;
                   now = ap (λ (n : ℕ). n + g .ticks) now-here;
@@ -545,10 +533,10 @@ module _ (s : State) (k from : ℕ) (h : sound s ≡ true) (time : s .now + k �
             next-lines : lines (count + 1) k (model s) ≡ lines count k (model s) ++ (lineFor M (c .left) ∷ [])
             next-lines = lines-more count k (model s) ∙ ap (λ (ls : List Line). lines count k (model s) ++ ls) (ap (λ (n : ℕ). lines 1 n M) (sym (w .left)) ∙ lines-one (c .left) M some)
 
-            next-noted : {b : PortionPlace} → b ≡ portionPlace (line (c .now) (c .now + g .ticks) (useOf p)) → set qs count b ≡ padded portionPlaces noPortion (map portionPlace (lines (count + 1) k (model s)))
+            next-noted : {b : PortionPlace} → b ≡ portionPlace (line (c .now) (c .now + g .ticks) (useOf (portionOf next))) → set qs count b ≡ padded portionPlaces noPortion (map portionPlace (lines (count + 1) k (model s)))
             next-noted e =
                 let ls = lines count k (model s) in
-                let here : lineFor M (c .left) ≡ line (c .now) (c .now + g .ticks) (useOf p) = rw (turn-next, now-here, fits .ticks) in
+                let here : lineFor M (c .left) ≡ line (c .now) (c .now + g .ticks) (useOf (portionOf next)) = rw (turn-next, now-here, fits .ticks) in
                 ap₂ (λ (l : List PortionPlace) (v : PortionPlace). set l count v) (w .noted) (e ∙ ap portionPlace (sym here))
                 ∙ set-padded portionPlaces noPortion count (map portionPlace ls) (portionPlace (lineFor M (c .left))) (length-map ls portionPlace ∙ w .counted) room
                 ∙ ap (padded portionPlaces noPortion) (sym (map-append portionPlace ls (lineFor M (c .left) ∷ [])) ∙ ap (λ (l : List Line). map portionPlace l) (sym next-lines))
@@ -556,10 +544,10 @@ module _ (s : State) (k from : ℕ) (h : sound s ≡ true) (time : s .now + k �
             next-ready : but (made g R) (changed (g .guest) renew (made g R .guests)) (made g R .spares) ≡ renewed (reached s k (count + 1))
             unfolding renewed
             next-ready =
-                ap (λ (gs : List Guest). but (made g R) gs (made g R .spares)) (settled-but (g .guest) (ranBy g) (settled M (reached-sane count))) ∙ ap renewed next-reached
+                ap (λ (gs : List Guest). but (made g R) gs (made g R .spares)) (settled-but (g .guest) (ran (g .own) (g .lent)) (settled M (reached-sane count))) ∙ ap renewed next-reached
 
             turn-more : {a : GuestPlace} {y : SparePlace} {b : PortionPlace} {d : Clock} {more : Bool} → a ≡ ranPlace g B → y ≡ spentPlace g Y
-                → b ≡ portionPlace (line (c .now) (c .now + g .ticks) (useOf p)) → d ≡ laterBy g c → more ≡ ltb 0 (d .left) && ltb (count + 1) portionPlaces
+                → b ≡ portionPlace (line (c .now) (c .now + g .ticks) (useOf (portionOf next))) → d ≡ laterBy g c → more ≡ ltb 0 (d .left) && ltb (count + 1) portionPlaces
                 → Walking s k from (set ds (c .last) due) (set (set ps (c .last) r) (g .guest) a) (set ss at y) (set qs count b) d (count + 1) more
             turn-more {a} {y} {b} {d} {more} ra ry rb rd rm =
                 subst (λ (d : Clock). Walking s k from (set ds (c .last) due) (set (set ps (c .last) r) (g .guest) a) (set ss at y) (set qs count b) d (count + 1) more) (sym rd)
@@ -567,7 +555,7 @@ module _ (s : State) (k from : ℕ) (h : sound s ≡ true) (time : s .now + k �
                   x = made g R;
                   shows = next-shows ra ry;
                   start = w .start;
-                  first = λ gs same few. w .first gs (same ∙ same-mask (made g R .guests) (R .guests) (map-changed bitOf (ranBy g) (bit-ran g) (g .guest) (R .guests)) ∙ same-active) few;
+                  first = λ gs same few. w .first gs (same ∙ same-mask (made g R .guests) (R .guests) (map-changed bitOf (ran (g .own) (g .lent)) (bit-ran (g .own) (g .lent)) (g .guest) (R .guests)) ∙ same-active) few;
                   dues = dues-here ∙ sym (map-set-same dueAt gs₁ (g .guest) a noGuestPlace (ap dueAt ra));
                   early = subst (λ (m : Model). All (λ g. deadlineOf g ≤ 2 ^ 62) (m .guests)) (sym next-reached) (reached-early (count + 1));
                   exact = λ _. next-reached;
@@ -581,7 +569,7 @@ module _ (s : State) (k from : ℕ) (h : sound s ≡ true) (time : s .now + k �
                   goes = rm ∙ ap (λ (d : Clock). ltb 0 (d .left) && ltb (count + 1) portionPlaces) rd;
                 })
 
-            pub turn : Turned s k from ds ps ss qs c count r due at p g
+            pub turn : Turned s k from ds ps ss qs c count r due at next g
             turn = record { inside = turn-inside; ran = turn-ran; spent = turn-spent; now = turn-now; later = turn-later; more = turn-more }
 
   -- what the loop's bounds need of it

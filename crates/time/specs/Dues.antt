@@ -18,6 +18,10 @@ never = 18446744073709551615
 abbrev pub dueAt : GuestPlace → ℕ
 dueAt g = cond (eqb (g .jobs) 0) never (g .deadline)
 
+-- every deadline comes before it
+abbrev pub AllDue : List GuestPlace → Type 0
+AllDue gs = (i : ℕ) → i < length gs → getD gs i noGuestPlace .deadline < never
+
 -- the numbers decide between any two guests as the guests do
 abbrev pub Mirrors : List ℕ → List GuestPlace → Type 0
 Mirrors ds gs = (i k : ℕ) → i < length gs → k < length gs → ltb (getD ds k 0) (getD ds i 0) ≡ beats (getD gs i noGuestPlace) (getD gs k noGuestPlace)

@@ -1,11 +1,14 @@
-// The deadlines of the active guests as plain numbers, which a search can be lent without a copy.
+// The choice of step 2: the deadlines of the active guests as plain numbers, which one search can be lent without a copy.
 ghost use mathlib.Core.Path.{_≡_};
 ghost use mathlib.Core.Bool.{cond};
 ghost use mathlib.Core.List.{map};
 ghost use Prim.Native.Nat.{_≤_, _<_};
 ghost use lib.Dec.{ltb};
 ghost use Rattle.rules.specs.Limits.{guestPlaces};
-ghost use Rattle.time.specs.Dues.{dueAt, SoonestFrom};
+ghost use Rattle.rules.specs.Steps.{earliest};
+ghost use Rattle.order.specs.Choice.{inUse, pickOf};
+ghost use Rattle.time.specs.Dues.{dueAt, AllDue, SoonestFrom};
+use order::Pick;
 use rules::GUEST_PLACES;
 use rules::Guest;
 
@@ -57,4 +60,26 @@ pub(crate) fn soonest(dues: &[u64; GUEST_PLACES], from: usize, count: usize) -> 
         i = i + 1;
     }
     best
+}
+
+// Where the search starts. Where nobody is active it may start anywhere.
+pub(crate) fn start_of(lowest: usize, count: usize) -> usize
+    ensures { λ r. ⌜ (lowest < count → r ≡ lowest) × (count ≤ lowest → r ≡ 0) ⌝ }
+{
+    if lowest < count {
+        return lowest;
+    }
+    0
+}
+
+// Who runs; the search starts at the lowest active guest.
+pub(crate) fn picked(guests: [Guest; GUEST_PLACES], count: usize) -> Pick
+    requires { ⌜ (0 < count) × (count ≤ guestPlaces) × AllDue guests ⌝ }
+    ensures { λ r. ⌜ pickOf r ≡ earliest 0 (inUse count guests) ⌝ }
+{
+    let from = start_of(order::lowest(guests, count), count);
+    let dues = dues_of(guests);
+    let soon = soonest(&dues, from, count);
+    let g = guests[soon];
+    order::ready(soon, g)
 }

@@ -9,6 +9,7 @@ ghost use Rattle.rules.specs.Refusals.{first, numberOf};
 ghost use Rattle.rules.specs.Sound.{sound};
 ghost use Rattle.rules.specs.Steps.{advance};
 ghost use Rattle.rules.specs.Walks.{Walked};
+use crate::dues::picked;
 use crate::renewal::guests_renewed;
 use crate::walking::no_portions;
 use crate::walking::walked;
@@ -40,9 +41,9 @@ pub fn ask(s: State) -> Asked
     }
     let t = s.table;
     let guests = guests_renewed(s);
-    let chosen = order::earliest(guests, t.count);
+    let pick = picked(guests, t.count);
     let first = s.spares[0];
-    let next = next_of(chosen, first, 0 < s.count);
+    let next = next_of(pick, first, 0 < s.count);
     Asked {
         answer: Answer::Went,
         next,

@@ -8,9 +8,10 @@ ghost use lib.Seq.{slice};
 ghost use Rattle.laws.specs.Lists.{padded};
 ghost use Rattle.rules.specs.Calls.{portionOf};
 ghost use Rattle.rules.specs.Limits.{sparePlaces, portionPlaces, lastTick};
-ghost use Rattle.rules.specs.Lines.{line, useOf};
+ghost use Rattle.rules.specs.Lines.{line};
 ghost use Rattle.rules.specs.Places.{model, noSparePlace};
 ghost use Rattle.rules.specs.Sound.{sound};
+ghost use Rattle.rules.specs.Steps.{useOf};
 ghost use Rattle.rules.specs.Walks.{usedOf, portionPlace, noPortion, Walked};
 ghost use Rattle.time.specs.Clocks.{placed, begunFrom, startedAt, laterBy, walkOf};
 use crate::charges::ran;
@@ -18,6 +19,7 @@ use crate::charges::spent;
 use crate::dues::due_of;
 use crate::dues::dues_of;
 use crate::dues::soonest;
+use crate::dues::start_of;
 use crate::renewal::guests_renewed;
 use crate::renewal::renewed;
 use portions::Charge;
@@ -55,16 +57,6 @@ fn begun(s: State, k: u64) -> [Guest; GUEST_PLACES]
         return s.guests;
     }
     guests_renewed(s)
-}
-
-// Where the search starts. Where nobody is active it may start anywhere.
-fn start_of(lowest: usize, count: usize) -> usize
-    ensures { λ r. ⌜ (lowest < count → r ≡ lowest) × (count ≤ lowest → r ≡ 0) ⌝ }
-{
-    if lowest < count {
-        return lowest;
-    }
-    0
 }
 
 // The place of the first spare that is not spent, or any place where all are.
@@ -224,10 +216,10 @@ pub(crate) fn walked(s: State, k: u64) -> Walk
         dues[last] = due_of(r);
         let soon = soonest(&dues, from, t.count);
         let f = guests[soon];
-        let chosen = order::ready(soon, f);
+        let pick = order::ready(soon, f);
         let at = spare_place(h.head);
         let x = spares[at];
-        let next = next_of(chosen, x, h.head < s.count);
+        let next = next_of(pick, x, h.head < s.count);
         let c = charge_of(next, h.left, last);
         let i = c.guest;
         let b = guests[i];

@@ -2,8 +2,14 @@
 use mathlib.Core.Path.{_≡_, sym, _∙_}
 use mathlib.Core.Bool.{true}
 use borrow.Author.Tests.{not-true, not-false}
+use native.Mathlib.Omega.{arith}
+use Rattle.rules.specs.Places.{model}
 use Rattle.rules.specs.Sound.{sound}
+use Rattle.rules.specs.Steps.{renewed}
+use Rattle.promises.proofs.Facts.{sane-model}
 use Rattle.time.proofs.Asking.{ask-refused, ask-told, ask-next}
+use Rattle.time.proofs.Placing.{table-good}
+use Rattle.time.proofs.Turning.{placed-due, renewed-early}
 use borrow.Author.Needs.{needs}
 use Rattle.time.proofs.ask.Statement.{statement}
 use Rattle.time.proofs.ask.Tie as tie
@@ -21,8 +27,11 @@ returns c = ask-refused (c .before .before .args .t1) (sym (c .before .is-sound 
 guests-renewed-requires : tie.Need-guests-renewed-requires
 guests-renewed-requires c κs = holding (c .before)
 
-earliest-requires : tie.Need-earliest-requires
-earliest-requires c κs = search needs
+picked-requires : tie.Need-picked-requires
+picked-requires c κs =
+    let s = c .before .before .before .before .args .t1 in
+    let h = holding (c .before .before) in
+    (omega (arith, table-good s h .count-low), table-good s h .count-high, placed-due (renewed (model s) .guests) (renewed-early (model s) (sane-model s h)) (c .guests-renewed .ensures))
 
 element-copy-out-first : tie.Need-element-copy-out-first
 element-copy-out-first c = search needs
@@ -35,7 +44,7 @@ returns-2 c =
     let g = c .before .before .before in
     let a = g .before .before .before .before in
     let e = g .before .before in
-    ask-told (a .args .t1) (holding e) (ask-next (a .args .t1) (holding e) (g .guests-renewed .ensures) (c .before .before .earliest .ensures) (c .next-of .ensures))
+    ask-told (a .args .t1) (holding e) (ask-next (a .args .t1) (holding e) (g .guests-renewed .ensures) (c .before .before .picked .ensures) (c .next-of .ensures))
 
 pub ask-spec : {M : Type 1} → statement M
 ask-spec =
@@ -44,7 +53,7 @@ ask-spec =
     is-sound-requires
     returns
     guests-renewed-requires
-    earliest-requires
+    picked-requires
     element-copy-out-first
     next-of-requires
     returns-2)

@@ -5,7 +5,6 @@ use mathlib.Core.List.{List}
 use Prim.Native.Nat.{ℕ, _≤_, _<_, _-_}
 use native.Mathlib.Omega.{arith}
 use Rattle.rules.specs.Limits.{guestPlaces, sparePlaces, portionPlaces}
-use Rattle.rules.specs.Calls.{portionOf}
 use Rattle.time.proofs.Turning.{Walking, walking-start, bounds, room, turn-fits, Turned, turn, last-head, walking-end}
 use borrow.Author.Needs.{needs}
 use Rattle.time.proofs.walking.walked.Statement.{statement}
@@ -40,9 +39,9 @@ module _ (c : tie.After-charge-of Inv-loop μ-loop) where
   abbrev renewal : tie.After-due-of Inv-loop μ-loop
   renewal = place .before .before .before .before .before
 
-  turned : Turned (start loop .args .s) (start loop .args .k) (from loop) (loop .before .loop .dues) (loop .before .loop .guests) (loop .before .loop .spares) (loop .before .loop .portions) (loop .before .loop .h) (loop .before .loop .count) (renewal .before .renewed .result) (renewal .due-of .result) (place .spare-place .result) (portionOf (c .before .next-of .result)) (c .charge-of .result)
+  turned : Turned (start loop .args .s) (start loop .args .k) (from loop) (loop .before .loop .dues) (loop .before .loop .guests) (loop .before .loop .spares) (loop .before .loop .portions) (loop .before .loop .h) (loop .before .loop .count) (renewal .before .renewed .result) (renewal .due-of .result) (place .spare-place .result) (c .before .next-of .result) (c .charge-of .result)
   turned =
-      turn (start loop .args .s) (start loop .args .k) (from loop) (start loop .pre .0) (start loop .pre .1) (going loop) (renewal .before .renewed .ensures) (renewal .due-of .ensures) (place .before .before .before .soonest .ensures .1) (place .before .ready .ensures) (place .spare-place .ensures .1) (c .before .next-of .ensures) (c .charge-of .ensures)
+      turn (start loop .args .s) (start loop .args .k) (from loop) (start loop .pre .0) (start loop .pre .1) (going loop) (renewal .before .renewed .ensures) (renewal .due-of .ensures) (place .before .before .before .soonest .ensures .1) (place .before .ready .ensures) (place .spare-place .ensures .1) (c .before .next-of .result) (c .before .next-of .ensures) (c .charge-of .ensures)
 
   guest-inside : c .charge-of .result .guest < guestPlaces
   guest-inside = omega (arith, turned .inside, loop .before .loop .inv .0)
