@@ -9,13 +9,13 @@ use libc::STDIN_FILENO;
 use rules::Activity;
 use rules::Asked;
 use rules::Margin;
-use rules::Next;
-use rules::Outcome;
-use rules::PORTION_PLACES;
 use rules::Portion;
+use rules::Outcome;
+use rules::LINE_PLACES;
+use rules::Line;
 use rules::Source;
 use rules::State;
-use rules::Used;
+use rules::Use;
 use rules::Walk;
 
 const GUEST: usize = 310;
@@ -25,14 +25,20 @@ const TICKS: usize = 311;
 // The numbers of such a request, in bytes.
 const REQUEST_LENGTH: usize = 2496;
 
-fn put_portion(p: Portion, buffer: &mut [u8], filled: usize) -> usize {
-    let used = p.used;
-    let at = put_numbers(&[p.first, p.end], buffer, filled);
+fn put_source(guest: u64, source: Source, buffer: &mut [u8], filled: usize) -> usize {
+    match source {
+        Source::Own => put_numbers(&[1, guest, 0], buffer, filled),
+        Source::SpareOf(owner) => put_numbers(&[2, guest, owner as u64], buffer, filled),
+    }
+}
+
+fn put_line(line: Line, buffer: &mut [u8], filled: usize) -> usize {
+    let used = line.used;
+    let at = put_numbers(&[line.first, line.end], buffer, filled);
     match used {
-        Used::Own(guest) => put_numbers(&[1, guest as u64, 0], buffer, at),
-        Used::SpareOf(guest, owner) => put_numbers(&[2, guest as u64, owner as u64], buffer, at),
-        Used::Burned(owner) => put_numbers(&[3, 0, owner as u64], buffer, at),
-        Used::Idle => put_numbers(&[0, 0, 0], buffer, at),
+        Use::Run(guest, source) => put_source(guest as u64, source, buffer, at),
+        Use::Burn(owner) => put_numbers(&[3, 0, owner as u64], buffer, at),
+        Use::Nothing => put_numbers(&[0, 0, 0], buffer, at),
     }
 }
 
@@ -43,12 +49,12 @@ fn put_outcome(r: Outcome, buffer: &mut [u8], filled: usize) -> usize {
     put_state(state, buffer, at)
 }
 
-fn put_portions(portions: [Portion; PORTION_PLACES], buffer: &mut [u8], filled: usize) -> usize {
+fn put_lines(lines: [Line; LINE_PLACES], buffer: &mut [u8], filled: usize) -> usize {
     let mut at = filled;
     let mut i: usize = 0;
-    while i < PORTION_PLACES {
-        let p = portions[i];
-        at = put_portion(p, buffer, at);
+    while i < LINE_PLACES {
+        let line = lines[i];
+        at = put_line(line, buffer, at);
         i = i + 1;
     }
     at
@@ -57,24 +63,10 @@ fn put_portions(portions: [Portion; PORTION_PLACES], buffer: &mut [u8], filled: 
 fn put_walk(w: Walk, buffer: &mut [u8], filled: usize) -> usize {
     let answer = w.answer;
     let state = w.state;
-    let portions = w.portions;
+    let lines = w.lines;
     let stepped = put_outcome(Outcome { answer, state }, buffer, filled);
     let told = put_numbers(&[w.left, w.count as u64], buffer, stepped);
-    put_portions(portions, buffer, told)
-}
-
-fn put_run(
-    guest: u64,
-    source: Source,
-    due: u64,
-    span: u64,
-    buffer: &mut [u8],
-    filled: usize,
-) -> usize {
-    match source {
-        Source::Own => put_numbers(&[1, guest, 0, due, span], buffer, filled),
-        Source::SpareOf(owner) => put_numbers(&[2, guest, owner as u64, due, span], buffer, filled),
-    }
+    put_lines(lines, buffer, told)
 }
 
 fn put_asked(asked: Asked, buffer: &mut [u8], filled: usize) -> usize {
@@ -82,9 +74,12 @@ fn put_asked(asked: Asked, buffer: &mut [u8], filled: usize) -> usize {
     let next = asked.next;
     let at = put_answer(answer, buffer, filled);
     match next {
-        Next::Run(guest, source, due, span) => put_run(guest as u64, source, due, span, buffer, at),
-        Next::Burn(owner, due, span) => put_numbers(&[3, 0, owner as u64, due, span], buffer, at),
-        Next::Nothing => put_numbers(&[0, 0, 0, 0, 0], buffer, at),
+        Portion::Run(guest, source, due, span) => {
+            let behind = put_source(guest as u64, source, buffer, at);
+            put_numbers(&[due, span], buffer, behind)
+        }
+        Portion::Burn(owner, due, span) => put_numbers(&[3, 0, owner as u64, due, span], buffer, at),
+        Portion::Nothing => put_numbers(&[0, 0, 0, 0, 0], buffer, at),
     }
 }
 

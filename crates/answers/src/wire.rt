@@ -8,7 +8,7 @@
 // deadline, own and lent, of each of the 64 spares deadline, owner and capacity, then now, the count of spares, burned and idle: 310 numbers.
 //
 // The answers come in the order of the requests. Each call's answer starts with its refusal number, or 0:
-//   1: arrive, done and advance, each with its state; walk with its state, left, count, and of each of the 64 portions first, end, kind,
+//   1: arrive, done and advance, each with its state; walk with its state, left, count, and of each of the 64 lines first, end, kind,
 //      guest and owner; ask with kind, guest, owner, deadline and span; active with mask and count; margin with its ticks as the
 //      64 bits of a signed number;
 //   2: check; fresh with its state; write with the buffer's length and its bytes;

@@ -1,18 +1,22 @@
 -- How long a stretch lasts: the span, or the room before the event and the end, whichever is less.
 use mathlib.Core.Logic.{_⊎_, inl, inr}
-use mathlib.Core.Path.{_≡_}
+use mathlib.Core.Path.{_≡_, ap}
 use Prim.Native.Nat.{ℕ, _+_, _-_, _≤_, _<_, min}
 use native.Mathlib.Decide.{decLe}
 use native.Mathlib.Omega.{arith}
-use Rattle.rules.specs.declared.Next.{Next}
-use Rattle.rules.specs.declared.Next.the-variants.{Run, Burn, Nothing}
+use Rattle.rules.specs.declared.Portion.{Portion}
+use Rattle.rules.specs.Calls.{portionOf}
+use Rattle.rules.specs.Steps.{Span, limited, endless, spanOf}
+use Rattle.promises.specs.Spans.{Within}
 use Rattle.integrator.specs.Stretch.{WithinSpan, Stops}
 
 -- the ticks of a stretch with so much room
-abbrev pub lasting : Next → ℕ → ℕ
-lasting (Run guest source deadline span) room = min span room
-lasting (Burn owner deadline span) room = min span room
-lasting Nothing room = room
+abbrev lastingOn : Span → ℕ → ℕ
+lastingOn (limited span) room = min span room
+lastingOn endless room = room
+
+abbrev pub lasting : Portion → ℕ → ℕ
+lasting next room = lastingOn (spanOf (portionOf next)) room
 
 module _ (clock event end r : ℕ) (h : (clock < event) × (clock < end)) where
   -- all of the room reaches the event or the end
@@ -23,32 +27,29 @@ module _ (clock event end r : ℕ) (h : (clock < event) × (clock < end)) where
   room-over : r ≡ min event end - clock → (clock + r ≡ event) ⊎ (clock + r ≡ end)
   room-over = room-over′ (decLe event end)
 
-  stops′ : (span : ℕ) → Dec (span ≤ min event end - clock) → r ≡ min span (min event end - clock) → (r ≡ span) ⊎ (clock + r ≡ event) ⊎ (clock + r ≡ end)
-  stops′ span (yes p) e = inl (omega arith)
+  stops′ : (span : ℕ) → Dec (span ≤ min event end - clock) → r ≡ min span (min event end - clock) → (limited span ≡ limited r) ⊎ (clock + r ≡ event) ⊎ (clock + r ≡ end)
+  stops′ span (yes p) e = let whole : span ≡ r = omega arith in inl (ap limited whole)
   stops′ span (no p) e = inr (room-over (omega arith))
 
-  stops : (next : Next) → r ≡ lasting next (min event end - clock) → Stops next clock event end r
-  stops (Run guest source deadline span) e = stops′ span (decLe span (min event end - clock)) e
-  stops (Burn owner deadline span) e = stops′ span (decLe span (min event end - clock)) e
-  stops Nothing e = inr (room-over e)
+  stops : (span : Span) → r ≡ lastingOn span (min event end - clock) → (span ≡ limited r) ⊎ (clock + r ≡ event) ⊎ (clock + r ≡ end)
+  stops (limited span) e = stops′ span (decLe span (min event end - clock)) e
+  stops endless e = inr (room-over e)
 
-  within : (next : Next) → r ≡ lasting next (min event end - clock) → WithinSpan r next
-  within (Run guest source deadline span) e = omega arith
-  within (Burn owner deadline span) e = omega arith
-  within Nothing e = tt
+  within : (span : Span) → r ≡ lastingOn span (min event end - clock) → Within r span
+  within (limited span) e = omega arith
+  within endless e = tt
 
-  some : (next : Next) → WithinSpan 1 next → r ≡ lasting next (min event end - clock) → 1 ≤ r
-  some (Run guest source deadline span) w e = omega arith
-  some (Burn owner deadline span) w e = omega arith
-  some Nothing w e = omega arith
+  some : (span : Span) → Within 1 span → r ≡ lastingOn span (min event end - clock) → 1 ≤ r
+  some (limited span) w e = omega arith
+  some endless w e = omega arith
 
-  fits : (next : Next) → r ≡ lasting next (min event end - clock) → clock + r ≤ min event end
-  fits (Run guest source deadline span) e = omega arith
-  fits (Burn owner deadline span) e = omega arith
-  fits Nothing e = omega arith
+  fits : (span : Span) → r ≡ lastingOn span (min event end - clock) → clock + r ≤ min event end
+  fits (limited span) e = omega arith
+  fits endless e = omega arith
 
-  pub decided : (next : Next) → WithinSpan 1 next → r ≡ lasting next (min event end - clock)
+  pub decided : (next : Portion) → WithinSpan 1 next → r ≡ lasting next (min event end - clock)
       → (1 ≤ r) × (WithinSpan r next × ((clock + r ≤ event) × ((clock + r ≤ end) × Stops next clock event end r)))
   decided next w e =
-      let f : clock + r ≤ min event end = fits next e in
-      (some next w e, (within next e, (omega arith, (omega arith, stops next e))))
+      let span = spanOf (portionOf next) in
+      let f : clock + r ≤ min event end = fits span e in
+      (some span w e, (within span e, (omega arith, (omega arith, stops span e))))

@@ -6,7 +6,7 @@ use libc::STDOUT_FILENO;
 use rules::Answer;
 use rules::GUEST_PLACES;
 use rules::Guest;
-use rules::Next;
+use rules::Portion;
 use rules::Source;
 use rules::State;
 
@@ -38,23 +38,23 @@ fn write_span(span: u64) {
     write_text(b"\n");
 }
 
-pub(crate) fn write_stretch(first: u64, end: u64, next: Next) {
+pub(crate) fn write_stretch(first: u64, end: u64, next: Portion) {
     write_number(first);
     write_text(b" ");
     write_number(end);
     write_text(b" ");
     match next {
-        Next::Run(guest, source, _, span) => {
+        Portion::Run(guest, source, _, span) => {
             write_guest_number(guest);
             write_source(source);
             write_span(span);
         }
-        Next::Burn(owner, _, span) => {
+        Portion::Burn(owner, _, span) => {
             write_text(b"- burned spare of ");
             write_guest_number(owner);
             write_span(span);
         }
-        Next::Nothing => write_text(b"- idle\n"),
+        Portion::Nothing => write_text(b"- idle\n"),
     }
 }
 

@@ -12,7 +12,7 @@ use crate::lines::write_event;
 use crate::lines::write_refusal;
 use crate::lines::write_stretch;
 use rules::Answer;
-use rules::Next;
+use rules::Portion;
 use rules::Outcome;
 use rules::State;
 
@@ -28,7 +28,7 @@ fn sooner(a: u64, b: u64) -> u64
 
 // How long to run before asking again: behind the span comes another portion, and an event may change who runs. `event` and `end` are the
 // ticks of the next event and of the end.
-fn ticks_to_run(next: Next, clock: u64, event: u64, end: u64) -> u64
+fn ticks_to_run(next: Portion, clock: u64, event: u64, end: u64) -> u64
     requires { ⌜ WithinSpan 1 next ⌝ }
     requires { ⌜ (clock < event) × (clock < end) ⌝ }
     ensures some { λ r. ⌜ 1 ≤ r ⌝ }
@@ -39,9 +39,9 @@ fn ticks_to_run(next: Next, clock: u64, event: u64, end: u64) -> u64
 {
     let room = sooner(event, end) - clock;
     match next {
-        Next::Run(_, _, _, span) => sooner(span, room),
-        Next::Burn(_, _, span) => sooner(span, room),
-        Next::Nothing => room,
+        Portion::Run(_, _, _, span) => sooner(span, room),
+        Portion::Burn(_, _, span) => sooner(span, room),
+        Portion::Nothing => room,
     }
 }
 

@@ -10,7 +10,7 @@ use lib.Seq.{sets, length-sets}
 use borrow.Author.Tests.{leb-true, le-leb, lt-leb, not-true, not-false}
 use Rattle.laws.proofs.Cases.{by-test, by-leb}
 use Rattle.laws.proofs.Parts.{stored-on}
-use Rattle.rules.specs.declared.Portion.{Portion}
+use Rattle.rules.specs.declared.Line.{Line as LinePlace}
 use Rattle.text.specs.Decimal.{decimal}
 use Rattle.text.specs.Lines.{spaced, closed, usedBytes, portionBytes, refusalBytes, endBytes, lineRoom, hasRoom, LinePut}
 use Rattle.lines.specs.Parts.{PartPut}
@@ -43,7 +43,7 @@ part-long {bytes} {before = before} {at = at} p = ap length (p .content) ∙ len
 -- ---- the parts of each line
 
 module _ (before : List ℕ) (filled : ℕ) {after : List ℕ} {r : ℕ} where
-  pub portion-parts : (p : Portion) {one two : List ℕ} {at to : ℕ} → PartPut (decimal (p .first)) 20 before filled one at → PartPut (spaced (p .end)) 21 one at two to
+  pub portion-parts : (p : LinePlace) {one two : List ℕ} {at to : ℕ} → PartPut (decimal (p .first)) 20 before filled one at → PartPut (spaced (p .end)) 21 one at two to
       → PartPut (usedBytes (p .used)) 43 two to after r → PartPut (portionBytes p) lineRoom before filled (set after r 10) (r + 1)
   unfolding portionBytes
   portion-parts p first end used = part-on (part-on (part-on first end) used) (part-byte 10 after r refl)

@@ -4,7 +4,7 @@ use crate::parts::put_closed;
 use crate::parts::put_number;
 use crate::parts::put_spaced;
 use crate::parts::put_used;
-use rules::Portion;
+use rules::Line;
 
 mod parts;
 
@@ -21,15 +21,15 @@ pub fn has_room(length: usize, filled: usize, room: usize) -> bool
     filled <= length - room
 }
 
-pub fn put_portion(p: Portion, buffer: &mut [u8], filled: usize) -> usize
-    ensures { λ r. ⌜ LinePut (portionBytes p) (now (buffer .entry)) filled (now (buffer .exit)) r ⌝ }
+pub fn put_portion(line: Line, buffer: &mut [u8], filled: usize) -> usize
+    ensures { λ r. ⌜ LinePut (portionBytes line) (now (buffer .entry)) filled (now (buffer .exit)) r ⌝ }
 {
     if !has_room(buffer.len(), filled, LINE_ROOM) {
         return filled;
     }
-    let first = put_number(p.first, buffer, filled);
-    let end = put_spaced(p.end, buffer, first);
-    let used = p.used;
+    let first = put_number(line.first, buffer, filled);
+    let end = put_spaced(line.end, buffer, first);
+    let used = line.used;
     let behind = put_used(used, buffer, end);
     buffer[behind] = b'\n';
     behind + 1

@@ -3,9 +3,10 @@ ghost use mathlib.Core.Path.{_≡_};
 ghost use Prim.Native.Nat.{_+_, _≤_, _<_};
 ghost use lib.ListN.{length};
 ghost use Rattle.text.specs.Decimal.{digitCount, decimal};
-ghost use Rattle.text.specs.Lines.{dash, spaced, closed, usedBytes};
+ghost use Rattle.text.specs.Lines.{dash, spaced, closed, sourceBytes, usedBytes};
 ghost use Rattle.lines.specs.Parts.{PartPut};
-use rules::Used;
+use rules::Source;
+use rules::Use;
 
 fn digit_count(n: u64) -> usize
     ensures { λ r. ⌜ (r ≡ digitCount n) × (r ≤ 20) ⌝ }
@@ -62,24 +63,31 @@ pub(crate) fn put_closed(n: u64, last: u8, buffer: &mut [u8], at: usize) -> usiz
     behind + 1
 }
 
-pub(crate) fn put_used(used: Used, buffer: &mut [u8], at: usize) -> usize
+// Behind a running guest: whose capacity it uses, itself or the spare's owner.
+fn put_source(guest: usize, source: Source, buffer: &mut [u8], at: usize) -> usize
+    requires { ⌜ at + 22 ≤ length (now buffer) ⌝ }
+    ensures { λ r. ⌜ PartPut (sourceBytes guest source) 22 (now (buffer .entry)) at (now (buffer .exit)) r ⌝ }
+{
+    match source {
+        Source::Own => put_closed(guest as u64, b'o', buffer, at),
+        Source::SpareOf(owner) => put_closed(owner as u64, b's', buffer, at),
+    }
+}
+
+pub(crate) fn put_used(used: Use, buffer: &mut [u8], at: usize) -> usize
     requires { ⌜ at + 43 ≤ length (now buffer) ⌝ }
     ensures { λ r. ⌜ PartPut (usedBytes used) 43 (now (buffer .entry)) at (now (buffer .exit)) r ⌝ }
 {
     match used {
-        Used::Own(i) => {
+        Use::Run(i, source) => {
             let behind = put_spaced(i as u64, buffer, at);
-            put_closed(i as u64, b'o', buffer, behind)
+            put_source(i, source, buffer, behind)
         }
-        Used::SpareOf(i, owner) => {
-            let behind = put_spaced(i as u64, buffer, at);
-            put_closed(owner as u64, b's', buffer, behind)
-        }
-        Used::Burned(owner) => {
+        Use::Burn(owner) => {
             let behind = put_dash(buffer, at);
             put_closed(owner as u64, b's', buffer, behind)
         }
-        Used::Idle => {
+        Use::Nothing => {
             let behind = put_dash(buffer, at);
             put_dash(buffer, behind)
         }

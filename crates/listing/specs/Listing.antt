@@ -6,14 +6,14 @@ use lib.Dec.{ltb, eqb}
 use lib.ListN.{length, set, replicate}
 use Rattle.rules.specs.declared.Table.{Table}
 use Rattle.rules.specs.declared.State.{State}
-use Rattle.rules.specs.declared.Portion.{Portion}
+use Rattle.rules.specs.declared.Line.{Line as LinePlace}
 use Rattle.rules.specs.Limits.{guestPlaces}
 use Rattle.rules.specs.Refusals.{first}
 use Rattle.rules.specs.Table.{tableRows, noEntry}
 use Rattle.rules.specs.Places.{freshState}
 use Rattle.rules.specs.Calls.{Call, arrives, finishes, advances, numberGiven, stateAfter}
 use Rattle.rules.specs.Lines.{linesOf}
-use Rattle.rules.specs.Walks.{portionPlace}
+use Rattle.rules.specs.Walks.{linePlace}
 use Rattle.text.specs.declared.Line.{Line}
 use Rattle.text.specs.declared.Line.the-variants.{Frame, Guest, Arrive, Done, Advance, Malformed}
 use Rattle.text.specs.Script.{malformed, lineOf}
@@ -44,13 +44,13 @@ refusalIn zero = []
 refusalIn (suc n) = refusalBytes (suc n)
 
 -- "`R` prints one line per portion"
-abbrev pub portionsBytes : List Portion → List ℕ
+abbrev pub portionsBytes : List LinePlace → List ℕ
 portionsBytes [] = []
 portionsBytes (p ∷ ps) = portionBytes p ++ portionsBytes ps
 
 -- a refusal has no portions, and only an advance has some
 unfoldable pub printed : Call → State → List ℕ
-printed c s = refusalIn (numberGiven c s) ++ portionsBytes (map portionPlace (linesOf c s))
+printed c s = refusalIn (numberGiven c s) ++ portionsBytes (map linePlace (linesOf c s))
 
 -- ---- "any of `A i` (arrive), `D i` (done), `R k` (advance)"
 

@@ -8,12 +8,12 @@ use lib.ListN.{length, take, drop}
 use lib.Seq.{sets}
 use Rattle.rules.specs.declared.Table.{Table}
 use Rattle.rules.specs.declared.State.{State}
-use Rattle.rules.specs.Limits.{portionPlaces, lastTick}
+use Rattle.rules.specs.Limits.{linePlaces, lastTick}
 use Rattle.rules.specs.Refusals.{first}
 use Rattle.rules.specs.Table.{tableRows, noTable}
 use Rattle.rules.specs.Places.{freshState, noState}
 use Rattle.rules.specs.Calls.{Call, arrives, finishes, advances, numberGiven, stateAfter}
-use Rattle.rules.specs.Walks.{portionPlace, walkLines, walkState, walkLeft}
+use Rattle.rules.specs.Walks.{linePlace, walkLines, walkState, walkLeft}
 use Rattle.text.specs.declared.Line.{Line}
 use Rattle.text.specs.declared.Line.the-variants.{Frame, Guest, Arrive, Done, Advance, Malformed}
 use Rattle.text.specs.Script.{malformed, lineOf}
@@ -99,7 +99,7 @@ calls c end h = step (refusalIn (numberGiven c (h .state))) (goingOn end (h .tab
 -- some portions of k ticks: those of one walk
 abbrev pub walks : ℕ → ℕ → Held → Step
 walks k end h =
-    step (refusalIn (numberGiven (advances k) (h .state)) ++ portionsBytes (map portionPlace (walkLines k (h .state))))
+    step (refusalIn (numberGiven (advances k) (h .state)) ++ portionsBytes (map linePlace (walkLines k (h .state))))
     (goingOn end (h .table) (walkState k (h .state)) (walkLeft k (h .state)))
 
 -- a command
@@ -136,7 +136,7 @@ stepOf input h = stepIn (h .stage) input h
 
 -- a step puts out at most a walk's portions
 abbrev pub stepRoom : ℕ
-stepRoom = portionPlaces * lineRoom
+stepRoom = linePlaces * lineRoom
 
 -- a step of the code: what is held next, how many bytes the buffer holds then, and its whole content; without room nothing happens
 pub record Stepping (input : List ℕ) (h : Held) (buffer : List ℕ) (filled : ℕ) (after : List ℕ) (r : Stepped) : Type 0 where

@@ -6,7 +6,7 @@ use crate::digest::state_digest;
 use crate::setting::BUDGET;
 use rules::Answer;
 use rules::Guest;
-use rules::Next;
+use rules::Portion;
 use rules::Source;
 use rules::State;
 
@@ -80,20 +80,20 @@ fn source_mixed(sum: u64, source: Source) -> u64 {
     }
 }
 
-fn next_mixed(sum: u64, next: Next) -> u64 {
+fn next_mixed(sum: u64, next: Portion) -> u64 {
     match next {
-        Next::Run(i, source, deadline, span) => {
+        Portion::Run(i, source, deadline, span) => {
             let a = mixed(sum, i as u64);
             let b = source_mixed(a, source);
             let c = mixed(b, deadline);
             mixed(c, span)
         }
-        Next::Burn(owner, deadline, span) => {
+        Portion::Burn(owner, deadline, span) => {
             let a = mixed(sum, owner as u64);
             let b = mixed(a, deadline);
             mixed(b, span)
         }
-        Next::Nothing => sum,
+        Portion::Nothing => sum,
     }
 }
 

@@ -12,8 +12,8 @@ use Rattle.laws.proofs.Cases.{by-leb}
 use Rattle.rules.specs.declared.Spare.{Spare as SparePlace}
 use Rattle.rules.specs.declared.Source.{Source as DeclaredSource}
 use Rattle.rules.specs.declared.Source.the-variants.{Own, SpareOf}
-use Rattle.rules.specs.declared.Next.{Next}
-use Rattle.rules.specs.declared.Next.the-variants.{Run, Burn, Nothing}
+use Rattle.rules.specs.declared.Portion.{Portion as DeclaredPortion}
+use Rattle.rules.specs.declared.Portion.the-variants.{Run, Burn, Nothing}
 use Rattle.rules.specs.Calls.{portionOf}
 use Rattle.rules.specs.Lines.{ticksOn}
 use Rattle.rules.specs.Model.{Guest, guest, Spare, spare, Model, leftOf, capacityOf, guestAt, spareAt}
@@ -97,7 +97,7 @@ module _ (left last : ℕ) (some : 0 < left) (m : Model) (inside : last < length
   first-is : (owner d span : ℕ) → FirstSpareIs (m .spares) owner d (limited span) → (rest : List Spare) × (m .spares ≡ spare d owner span ∷ rest)
   first-is owner d span f = let e : span ≡ f .0 = limited-same span (f .0) (f .2) in (f .1 .0, rw e (f .1 .1))
 
-  pub charge-fits : (x : Next) → Uses (m .guests) (m .spares) (portionOf x) → Within 1 (spanOf (portionOf x)) → Fits (chargeOf left last x) left (portionOf x) m
+  pub charge-fits : (x : DeclaredPortion) → Uses (m .guests) (m .spares) (portionOf x) → Within 1 (spanOf (portionOf x)) → Fits (chargeOf left last x) left (portionOf x) m
   charge-fits (Run i Own d span) u h =
       let l : span ≡ leftOf (guestAt i (m .guests)) = limited-same span (leftOf (guestAt i (m .guests))) (u .2) in
       record {

@@ -6,6 +6,6 @@ use Rattle.portions.specs.Charges.{OneAnswer}
 pub one-answer : OneAnswer
 one-answer =
     record {
-      next = λ chosen first any a b p q. answers-determined .portion a b (p ∙ sym q);
-      charge = λ next left last a b p q. p ∙ sym q;
+      portion = λ pick first any a b p q. answers-determined .portion a b (p ∙ sym q);
+      charge = λ portion left last a b p q. p ∙ sym q;
     }

@@ -5,8 +5,8 @@ use mathlib.Core.List.{List, [], _∷_}
 use Prim.Native.Nat.{ℕ, min}
 use lib.Dec.{leb}
 use Rattle.rules.specs.declared.Spare.{Spare as SparePlace}
-use Rattle.rules.specs.declared.Next.{Next}
-use Rattle.rules.specs.declared.Next.the-variants.{Run, Burn, Nothing}
+use Rattle.rules.specs.declared.Portion.{Portion as DeclaredPortion}
+use Rattle.rules.specs.declared.Portion.the-variants.{Run, Burn, Nothing}
 use Rattle.rules.specs.declared.Source.{Source}
 use Rattle.rules.specs.declared.Source.the-variants.{Own, SpareOf}
 use Rattle.rules.specs.Calls.{portionOf}
@@ -35,21 +35,21 @@ runCharge Own i n removed = record { ticks = n; guest = i; own = n; lent = 0; sp
 runCharge (SpareOf owner) i n removed = record { ticks = n; guest = i; own = 0; lent = n; spent = n; removed = removed; burned = 0; idle = 0 }
 
 -- of the ticks left, those that stay on what comes next, each charged where a tick on it is charged
-abbrev pub chargeOf : ℕ → ℕ → Next → Charge
+abbrev pub chargeOf : ℕ → ℕ → DeclaredPortion → Charge
 chargeOf left last (Run i source d span) = runCharge source i (min left span) (removedBy (min left span) span)
 chargeOf left last (Burn owner d span) =
     record { ticks = min left span; guest = last; own = 0; lent = 0; spent = min left span; removed = removedBy (min left span) span; burned = min left span; idle = 0 }
 chargeOf left last Nothing = record { ticks = left; guest = last; own = 0; lent = 0; spent = 0; removed = 0; burned = 0; idle = left }
 
 -- steps 3 and 4 of a tick: what the picked guest and the first spare, if there is any, make the next tick use
-abbrev pub NextTold : DeclaredPick → SparePlace → Bool → Next → Type 0
-NextTold pick first any r = portionOf r ≡ portionFor (pickOf pick) (firstOf any first)
+abbrev pub PortionTold : DeclaredPick → SparePlace → Bool → DeclaredPortion → Type 0
+PortionTold pick first any r = portionOf r ≡ portionFor (pickOf pick) (firstOf any first)
 
 -- step 5, "The matching tally gains 1", for as many of the ticks left as stay on the portion
-abbrev pub ChargeTold : Next → ℕ → ℕ → Charge → Type 0
-ChargeTold next left last r = r ≡ chargeOf left last next
+abbrev pub ChargeTold : DeclaredPortion → ℕ → ℕ → Charge → Type 0
+ChargeTold portion left last r = r ≡ chargeOf left last portion
 
 -- any two answers that a predicate allows are equal
 pub record OneAnswer : Type 0 where
-  pub next : (pick : DeclaredPick) (first : SparePlace) (any : Bool) (a b : Next) → NextTold pick first any a → NextTold pick first any b → a ≡ b
-  pub charge : (next : Next) (left last : ℕ) (a b : Charge) → ChargeTold next left last a → ChargeTold next left last b → a ≡ b
+  pub portion : (pick : DeclaredPick) (first : SparePlace) (any : Bool) (a b : DeclaredPortion) → PortionTold pick first any a → PortionTold pick first any b → a ≡ b
+  pub charge : (portion : DeclaredPortion) (left last : ℕ) (a b : Charge) → ChargeTold portion left last a → ChargeTold portion left last b → a ≡ b

@@ -1,9 +1,9 @@
 // One portion: what comes next, and what so many ticks on it charge to whom.
 ghost use mathlib.Core.Path.{_≡_};
 ghost use Prim.Native.Nat.{min};
-ghost use Rattle.portions.specs.Charges.{removedBy, blank, runCharge, NextTold, ChargeTold};
+ghost use Rattle.portions.specs.Charges.{removedBy, blank, runCharge, PortionTold, ChargeTold};
 use order::Pick;
-use rules::Next;
+use rules::Portion;
 use rules::Source;
 use rules::Spare;
 
@@ -21,18 +21,18 @@ pub struct Charge {
 }
 
 // What the picked guest and the first spare, if there is any, make the next tick use.
-pub fn next_of(pick: Pick, first: Spare, any: bool) -> Next
-    ensures { λ r. ⌜ NextTold pick first any r ⌝ }
+pub fn portion_for(pick: Pick, first: Spare, any: bool) -> Portion
+    ensures { λ r. ⌜ PortionTold pick first any r ⌝ }
 {
     let Pick::Picked(i, d, c) = pick else {
         if any {
-            return Next::Burn(first.owner, first.deadline, first.capacity);
+            return Portion::Burn(first.owner, first.deadline, first.capacity);
         }
-        return Next::Nothing;
+        return Portion::Nothing;
     };
     if any {
         if first.deadline <= d {
-            return Next::Run(
+            return Portion::Run(
                 i,
                 Source::SpareOf(first.owner),
                 first.deadline,
@@ -40,7 +40,7 @@ pub fn next_of(pick: Pick, first: Spare, any: bool) -> Next
             );
         }
     }
-    Next::Run(i, Source::Own, d, c)
+    Portion::Run(i, Source::Own, d, c)
 }
 
 fn smaller(a: u64, b: u64) -> u64
@@ -94,16 +94,16 @@ fn run_charge(source: Source, i: usize, ticks: u64, removed: usize) -> Charge
 }
 
 // Where nobody runs, the charge names the guest that ran last: nothing is added to its numbers.
-pub fn charge_of(next: Next, left: u64, last: usize) -> Charge
-    ensures { λ r. ⌜ ChargeTold next left last r ⌝ }
+pub fn charge_of(portion: Portion, left: u64, last: usize) -> Charge
+    ensures { λ r. ⌜ ChargeTold portion left last r ⌝ }
 {
-    match next {
-        Next::Run(i, source, _, span) => {
+    match portion {
+        Portion::Run(i, source, _, span) => {
             let ticks = smaller(left, span);
             let removed = removed_by(ticks, span);
             run_charge(source, i, ticks, removed)
         }
-        Next::Burn(_, _, span) => {
+        Portion::Burn(_, _, span) => {
             let ticks = smaller(left, span);
             let removed = removed_by(ticks, span);
             let c = blank(ticks, last);
@@ -114,7 +114,7 @@ pub fn charge_of(next: Next, left: u64, last: usize) -> Charge
                 ..c
             }
         }
-        Next::Nothing => {
+        Portion::Nothing => {
             let c = blank(left, last);
             Charge { idle: left, ..c }
         }

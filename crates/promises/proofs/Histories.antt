@@ -8,7 +8,7 @@ use lib.Seq.{take-all, take-length}
 use Rattle.rules.specs.declared.Table.{Table}
 use Rattle.rules.specs.declared.State.{State}
 use Rattle.rules.specs.declared.Walk.{Walk}
-use Rattle.rules.specs.Limits.{portionPlaces}
+use Rattle.rules.specs.Limits.{linePlaces}
 use Rattle.rules.specs.Refusals.{first, numberOf}
 use Rattle.rules.specs.Table.{tableRows}
 use Rattle.rules.specs.Model.{budgetOf, deadlineOf, ownOf, guestAt}
@@ -35,8 +35,8 @@ refused-advance s k n e = rw e
 walk-by : (s : State) (k : ℕ) (r : Walk) → Walked s k r → (n : ℕ) → numberOf (r .answer) ≡ n → r .state ≡ stateAfter (advances (kept n (k - r .left) k)) s
 walk-by s k r p zero e =
     let a = may-advance s k (sym (p .answer) ∙ e) in
-    let n = ticksIn portionPlaces k (model s) in
-    let l = ticks-in-le portionPlaces k (model s) in
+    let n = ticksIn linePlaces k (model s) in
+    let l = ticks-in-le linePlaces k (model s) in
     let made : k - r .left ≡ n = omega (arith, p .left, walk-left s k a) in
     rw made (p .state ∙ walk-state s k a ∙ sym (advanced-state s n (record { whole = a .whole; time = omega (arith, a .time) })))
 walk-by s k r p (suc n) e = refusal-gives-back .walk s k r p (omega arith) .0 ∙ sym (refused-advance s k n (sym (p .answer) ∙ e))

@@ -15,12 +15,12 @@ use Rattle.rules.specs.declared.Outcome.{Outcome}
 use Rattle.rules.specs.declared.State.{State}
 use Rattle.rules.specs.declared.Source.{Source as DeclaredSource}
 use Rattle.rules.specs.declared.Source.the-variants.{Own, SpareOf}
-use Rattle.rules.specs.declared.Next.{Next}
-use Rattle.rules.specs.declared.Next.the-variants.{Run, Burn, Nothing}
-use Rattle.rules.specs.declared.Used.{Used}
-use Rattle.rules.specs.declared.Used.the-variants.{Own as Used-Own, SpareOf as Used-SpareOf, Burned, Idle}
+use Rattle.rules.specs.declared.Portion.{Portion as DeclaredPortion}
+use Rattle.rules.specs.declared.Portion.the-variants.{Run, Burn, Nothing}
+use Rattle.rules.specs.declared.Use.{Use as DeclaredUse}
+use Rattle.rules.specs.declared.Use.the-variants.{Run as Use-Run, Burn as Use-Burn, Nothing as Use-Nothing}
 use Rattle.rules.specs.declared.Walk.{Walk}
-use Rattle.rules.specs.Limits.{portionPlaces}
+use Rattle.rules.specs.Limits.{linePlaces}
 use Rattle.rules.specs.Refusals.{Row, first, refusalNumber, numberOf}
 use Rattle.rules.specs.Table.{noTable}
 use Rattle.rules.specs.Model.{Model}
@@ -28,7 +28,7 @@ use Rattle.rules.specs.Places.{noState}
 use Rattle.rules.specs.Steps.{Source, ownBudget, spareOf, Use, runs, burns, nothing, limited, endless, Portion, portion, nothingToDo}
 use Rattle.rules.specs.Calls.{told, kept, advanceRows, portionOf, Moved}
 use Rattle.rules.specs.Lines.{Line}
-use Rattle.rules.specs.Walks.{usedOf, useIn, portionPlace, noPortion, walkLines, walkState, walkLeft, Walked}
+use Rattle.rules.specs.Walks.{declaredUse, useIn, linePlace, noLine, walkLines, walkState, walkLeft, Walked}
 use Rattle.promises.specs.Promises.{AnswersDetermined, OneOutcome, RefusalGivesBack}
 
 -- ---- the answers
@@ -80,43 +80,43 @@ answer-back (Refused Malformed) = refl
 answer-same : (a b : Answer) → numberOf a ≡ numberOf b → a ≡ b
 answer-same a b e = sym (answer-back a) ∙ ap answerOf e ∙ answer-back b
 
-abbrev sourceBack : Source → DeclaredSource
-sourceBack ownBudget = Own
-sourceBack (spareOf owner) = SpareOf owner
+abbrev declaredSource : Source → DeclaredSource
+declaredSource ownBudget = Own
+declaredSource (spareOf owner) = SpareOf owner
 
-abbrev nextOf : Portion → Next
-nextOf (portion (runs i source) d (limited span)) = Run i (sourceBack source) d span
-nextOf (portion (runs i source) d endless) = Nothing
-nextOf (portion (burns owner) d (limited span)) = Burn owner d span
-nextOf (portion (burns owner) d endless) = Nothing
-nextOf (portion nothing d span) = Nothing
+abbrev declaredPortion : Portion → DeclaredPortion
+declaredPortion (portion (runs i source) d (limited span)) = Run i (declaredSource source) d span
+declaredPortion (portion (runs i source) d endless) = Nothing
+declaredPortion (portion (burns owner) d (limited span)) = Burn owner d span
+declaredPortion (portion (burns owner) d endless) = Nothing
+declaredPortion (portion nothing d span) = Nothing
 
-next-back : (x : Next) → nextOf (portionOf x) ≡ x
-next-back (Run i Own d span) = refl
-next-back (Run i (SpareOf owner) d span) = refl
-next-back (Burn owner d span) = refl
-next-back Nothing = refl
+portion-back : (x : DeclaredPortion) → declaredPortion (portionOf x) ≡ x
+portion-back (Run i Own d span) = refl
+portion-back (Run i (SpareOf owner) d span) = refl
+portion-back (Burn owner d span) = refl
+portion-back Nothing = refl
 
-next-same : (x y : Next) → portionOf x ≡ portionOf y → x ≡ y
-next-same x y e = sym (next-back x) ∙ ap nextOf e ∙ next-back y
+portion-same : (x y : DeclaredPortion) → portionOf x ≡ portionOf y → x ≡ y
+portion-same x y e = sym (portion-back x) ∙ ap declaredPortion e ∙ portion-back y
 
-use-back : (x : Used) → usedOf (useIn x) ≡ x
-use-back (Used-Own i) = refl
-use-back (Used-SpareOf i owner) = refl
-use-back (Burned owner) = refl
-use-back Idle = refl
+pub use-back : (x : DeclaredUse) → declaredUse (useIn x) ≡ x
+use-back (Use-Run i Own) = refl
+use-back (Use-Run i (SpareOf owner)) = refl
+use-back (Use-Burn owner) = refl
+use-back Use-Nothing = refl
 
-use-same : (x y : Used) → useIn x ≡ useIn y → x ≡ y
-use-same x y e = sym (use-back x) ∙ ap usedOf e ∙ use-back y
+use-same : (x y : DeclaredUse) → useIn x ≡ useIn y → x ≡ y
+use-same x y e = sym (use-back x) ∙ ap declaredUse e ∙ use-back y
 
-use-said : (u : Use) → useIn (usedOf u) ≡ u
+use-said : (u : Use) → useIn (declaredUse u) ≡ u
 use-said (runs i ownBudget) = refl
 use-said (runs i (spareOf owner)) = refl
 use-said (burns owner) = refl
 use-said nothing = refl
 
 pub answers-determined : AnswersDetermined
-answers-determined = record { number = answer-same; portion = next-same; use-of = use-same; use-said = use-said }
+answers-determined = record { number = answer-same; portion = portion-same; use-of = use-same; use-said = use-said }
 
 -- ---- the calls
 
@@ -144,11 +144,11 @@ one-outcome =
           let state = p .state ∙ sym (q .state) in
           let left = p .left ∙ sym (q .left) in
           let count = p .count ∙ sym (q .count) in
-          let portions = p .portions ∙ sym (q .portions) in
-          λ i. record { answer = answer i; state = state i; left = left i; count = count i; portions = portions i };
+          let lines = p .lines ∙ sym (q .lines) in
+          λ i. record { answer = answer i; state = state i; left = left i; count = count i; lines = lines i };
       ask = λ s x y p q.
           let answer = answers _ (x .answer) (y .answer) (p .answer) (q .answer) in
-          let next = next-same (x .next) (y .next) (p .next ∙ sym (q .next)) in
+          let next = portion-same (x .next) (y .next) (p .next ∙ sym (q .next)) in
           λ i. record { answer = answer i; next = next i };
       active = λ s x y p q.
           let answer = answers _ (x .answer) (y .answer) (p .answer) (q .answer) in
@@ -193,11 +193,11 @@ told-back (suc n) f z s h = refl
 moved-back : (rows : List Row) (step : Model → Model) (s : State) (r : Outcome) → Moved rows step s r → 0 < numberOf (r .answer) → r .state ≡ s
 moved-back rows step s r p h = p .state ∙ told-back (first rows) _ s s (rw (p .answer) at h)
 
-walk-back : (s : State) (k : ℕ) (r : Walk) → Walked s k r → 0 < first (advanceRows s k) → (r .state ≡ s) × (r .left ≡ 0) × (r .count ≡ 0) × (r .portions ≡ replicate portionPlaces noPortion)
+walk-back : (s : State) (k : ℕ) (r : Walk) → Walked s k r → 0 < first (advanceRows s k) → (r .state ≡ s) × (r .left ≡ 0) × (r .count ≡ 0) × (r .lines ≡ replicate linePlaces noLine)
 unfolding walkState walkLeft walkLines
 walk-back s k r p h =
     let lines : walkLines k s ≡ [] = told-back _ _ [] s h in
-    (p .state ∙ told-back _ _ s s h, p .left ∙ told-back _ _ 0 s h, p .count ∙ ap length lines, p .portions ∙ ap (λ (l : List Line). padded portionPlaces noPortion (map portionPlace l)) lines)
+    (p .state ∙ told-back _ _ s s h, p .left ∙ told-back _ _ 0 s h, p .count ∙ ap length lines, p .lines ∙ ap (λ (l : List Line). padded linePlaces noLine (map linePlace l)) lines)
 
 pub refusal-gives-back : RefusalGivesBack
 refusal-gives-back =
@@ -206,7 +206,7 @@ refusal-gives-back =
       done = λ s i r p h. moved-back _ _ s r p h;
       advance = λ s k r p h. moved-back _ _ s r p h;
       walk = λ s k r p h. walk-back s k r p (rw (p .answer) at h);
-      ask = λ s r p h. next-same (r .next) Nothing (p .next ∙ told-back _ _ nothingToDo s (rw (p .answer) at h));
+      ask = λ s r p h. portion-same (r .next) Nothing (p .next ∙ told-back _ _ nothingToDo s (rw (p .answer) at h));
       active = λ s r p h. (p .mask ∙ told-back _ _ 0 s (rw (p .answer) at h), p .count ∙ told-back _ _ 0 s (rw (p .answer) at h));
       margin = λ s i r p h. p .ticks ∙ told-back _ _ (pos 0) s (rw (p .answer) at h);
       fresh = λ t r p h. p .state ∙ kept-back _ _ noState (rw (p .answer) at h);

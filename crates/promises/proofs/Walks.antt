@@ -7,7 +7,7 @@ use native.Mathlib.Numerals.{add-one}
 use native.Mathlib.Omega.{arith}
 use lib.ListN.{replicate, replicate-append-replicate}
 use Rattle.rules.specs.declared.State.{State}
-use Rattle.rules.specs.Limits.{portionPlaces, lastTick}
+use Rattle.rules.specs.Limits.{linePlaces, lastTick}
 use Rattle.rules.specs.Model.{Model}
 use Rattle.rules.specs.Steps.{Span, limited, endless, useOf, spanOf, advance, ask}
 use Rattle.rules.specs.Places.{model, packed}
@@ -123,7 +123,7 @@ lines-same a b k m e f = sym (lines-enough a b k m e) ∙ ap (λ n. lines n k m)
 
 -- the ticks of a walk
 abbrev walked : State → ℕ → ℕ
-walked s k = ticksIn portionPlaces k (model s)
+walked s k = ticksIn linePlaces k (model s)
 
 module _ (s : State) (k : ℕ) (a : MayAdvance s k) where
   may-model : May k (model s)
@@ -133,7 +133,7 @@ module _ (s : State) (k : ℕ) (a : MayAdvance s k) where
   unfolding linesOf
   lines-of = rw (advance-allowed s k a)
 
-  pub walk-lines : walkLines k s ≡ lines portionPlaces k (model s)
+  pub walk-lines : walkLines k s ≡ lines linePlaces k (model s)
   unfolding walkLines
   walk-lines = rw (advance-allowed s k a)
 
@@ -150,7 +150,7 @@ module _ (s : State) (k : ℕ) (a : MayAdvance s k) where
 
   -- what a walk left may be walked
   walk-may : May (k - walked s k) (advance (walked s k) (model s))
-  walk-may = may-go-on (walked s k) k (model s) (ticks-in-le portionPlaces k (model s)) may-model
+  walk-may = may-go-on (walked s k) k (model s) (ticks-in-le linePlaces k (model s)) may-model
 
   pub walk-on : MayAdvance (walkState k s) (walkLeft k s)
   walk-on = record { whole = rw walk-state (packed-sound _ (walk-may .sane)); time = rw (walk-left, walk-model) (walk-may .time) }
@@ -160,14 +160,14 @@ module _ (s : State) (k : ℕ) (a : MayAdvance s k) where
   walk-then =
       let m = model s in
       let n = walked s k in
-      let e = ticks-in-parts portionPlaces (k - n) k m in
+      let e = ticks-in-parts linePlaces (k - n) k m in
       let f = ticks-all (k - n) (advance n m) walk-may in
       rw (walk-lines, walk-left, walk-model, ← lines-in-parts)
-      (lines-same (portionPlaces + (k - n)) k k m (omega (arith, ticks-in-le portionPlaces k m)) (ticks-all k m may-model))
+      (lines-same (linePlaces + (k - n)) k k m (omega (arith, ticks-in-le linePlaces k m)) (ticks-all k m may-model))
 
   -- the ticks of a walk and then those that it left
   walk-there : advance (walkLeft k s) (model (walkState k s)) ≡ advance k (model s)
-  walk-there = rw (walk-left, walk-model, ← advance-add, add-sub-of-le (ticks-in-le portionPlaces k (model s)))
+  walk-there = rw (walk-left, walk-model, ← advance-add, add-sub-of-le (ticks-in-le linePlaces k (model s)))
 
 -- an advance is a walk and then the advance of what it left: its portions
 pub walk-joins : (s : State) (k : ℕ) → MayAdvance s k → linesOf (advances k) s ≡ walkLines k s ++ linesOf (advances (walkLeft k s)) (walkState k s)
@@ -183,11 +183,11 @@ ticks-in-some most k s a e h l = rw (← e) (omega (arith, ticks-in-ge most k (m
 
 -- so it leaves fewer, and never more than time has; a refused walk leaves none
 module _ (s : State) (k : ℕ) where
-  left-falls : (n : ℕ) → first (advanceRows s k) ≡ n → 0 < k → told n (λ m. k - ticksIn portionPlaces k m) 0 s < k
-  left-falls zero e h = omega (arith, ticks-in-some portionPlaces k s (may-advance s k e) refl h (omega arith))
+  left-falls : (n : ℕ) → first (advanceRows s k) ≡ n → 0 < k → told n (λ m. k - ticksIn linePlaces k m) 0 s < k
+  left-falls zero e h = omega (arith, ticks-in-some linePlaces k s (may-advance s k e) refl h (omega arith))
   left-falls (suc n) e h = h
 
-  left-bound : (n : ℕ) → first (advanceRows s k) ≡ n → told n (λ m. k - ticksIn portionPlaces k m) 0 s ≤ lastTick
+  left-bound : (n : ℕ) → first (advanceRows s k) ≡ n → told n (λ m. k - ticksIn linePlaces k m) 0 s ≤ lastTick
   left-bound zero e = omega (arith, may-advance s k e .time)
   left-bound (suc n) e = omega arith
 
@@ -215,11 +215,11 @@ walks-are-advance s k h r n e =
     let w = walks-to n k s a e in
     (w .0 ∙ sym (lines-of s k a), w .1 ∙ sym (advanced s k a))
 
-walks-leave : (n k : ℕ) (s : State) → MayAdvance s k → k ≤ n * portionPlaces → leftAfter n k s ≡ 0
+walks-leave : (n k : ℕ) (s : State) → MayAdvance s k → k ≤ n * linePlaces → leftAfter n k s ≡ 0
 unfolding leftAfter
 walks-leave zero k s a l = omega arith
 walks-leave (suc n) k s a l =
-    let g = ticks-in-ge portionPlaces k (model s) (may-model s k a) in
+    let g = ticks-in-ge linePlaces k (model s) (may-model s k a) in
     walks-leave n (walkLeft k s) (walkState k s) (walk-on s k a) (omega (arith, walk-left s k a))
 
 -- and so many walks leave nothing

@@ -73,7 +73,7 @@ pub record WordsHeld : Type 0 where
   pub budget-overdue : NothingOverdue (then 11 (of 1 1 11 ∷ []) [] 4 6) → ⊥
   pub spare-overdue : NothingOverdue (then 11 (of 0 0 11 ∷ []) (spare 11 0 1 ∷ []) 4 6) → ⊥
   -- a walk of 7 ticks that left 2 is an advance by 5; a refused one is refused as it was asked for
-  pub walk-made : walkCall 7 (record { answer = Went; state = sample; left = 2; count = 0; portions = [] }) ≡ advances 5
-  pub walk-refused : walkCall 7 (record { answer = Refused EndOfTime; state = sample; left = 0; count = 0; portions = [] }) ≡ advances 7
+  pub walk-made : walkCall 7 (record { answer = Went; state = sample; left = 2; count = 0; lines = [] }) ≡ advances 5
+  pub walk-refused : walkCall 7 (record { answer = Refused EndOfTime; state = sample; left = 0; count = 0; lines = [] }) ≡ advances 7
   pub bits : (bit 0 6 ∷ bit 1 6 ∷ bit 2 6 ∷ bit 3 6 ∷ []) ≡ 0 ∷ 1 ∷ 1 ∷ 0 ∷ []
   pub active-ones : actives four ≡ guest 1 8 1 1 9 0 0 ∷ guest 1 8 3 1 9 0 0 ∷ []

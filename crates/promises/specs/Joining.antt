@@ -5,7 +5,7 @@ use mathlib.Core.List.{List, [], _∷_, _++_}
 use Prim.Native.Nat.{ℕ, zero, suc, _*_, _-_, _≤_}
 use lib.ListN.{replicate}
 use Rattle.rules.specs.declared.State.{State}
-use Rattle.rules.specs.Limits.{portionPlaces}
+use Rattle.rules.specs.Limits.{linePlaces}
 use Rattle.rules.specs.Model.{Model}
 use Rattle.rules.specs.Steps.{Use, useOf, tick, ask}
 use Rattle.rules.specs.Places.{model}
@@ -43,7 +43,7 @@ WalksAreAdvance =
 -- and so many walks leave nothing: a walk that leaves some ticks has answered as many portions as it has places
 abbrev pub WalksEnd : Type 0
 WalksEnd =
-    (s : State) (k : ℕ) → sound s ≡ true → numberGiven (advances k) s ≡ 0 → (n : ℕ) → k ≤ n * portionPlaces → leftAfter n k s ≡ 0
+    (s : State) (k : ℕ) → sound s ≡ true → numberGiven (advances k) s ≡ 0 → (n : ℕ) → k ≤ n * linePlaces → leftAfter n k s ≡ 0
 
 -- ---- the portions are the ticks
 

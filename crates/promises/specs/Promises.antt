@@ -12,15 +12,15 @@ use Rattle.rules.specs.declared.Table.{Table}
 use Rattle.rules.specs.declared.State.{State}
 use Rattle.rules.specs.declared.Answer.{Answer}
 use Rattle.rules.specs.declared.Outcome.{Outcome}
-use Rattle.rules.specs.declared.Next.{Next}
-use Rattle.rules.specs.declared.Next.the-variants.{Nothing}
+use Rattle.rules.specs.declared.Portion.{Portion as DeclaredPortion}
+use Rattle.rules.specs.declared.Portion.the-variants.{Nothing}
 use Rattle.rules.specs.declared.Asked.{Asked}
 use Rattle.rules.specs.declared.Activity.{Activity}
 use Rattle.rules.specs.declared.Margin.{Margin}
 use Rattle.rules.specs.declared.Loaded.{Loaded}
-use Rattle.rules.specs.declared.Used.{Used}
+use Rattle.rules.specs.declared.Use.{Use as DeclaredUse}
 use Rattle.rules.specs.declared.Walk.{Walk}
-use Rattle.rules.specs.Limits.{lastTick, portionPlaces}
+use Rattle.rules.specs.Limits.{lastTick, linePlaces}
 use Rattle.rules.specs.Refusals.{Row, first, numbers, holds, numberOf}
 use Rattle.rules.specs.Table.{tableRows, noTable}
 use Rattle.rules.specs.Model.{guest, budgetOf, ownOf, lentOf, capacityOf, spareAt, Guest, Spare, spare, Model, leftOf, deadlineOf, dueOf, active, guestAt, maskOf, activeCount, tallies}
@@ -29,7 +29,7 @@ use Rattle.rules.specs.Places.{model, packed, freshState, noState}
 use Rattle.rules.specs.Sound.{sound}
 use Rattle.rules.specs.Image.{offsetIn, tableIn, readRows, imageOf, imageLength, writeRows, overwritten}
 use Rattle.rules.specs.Calls.{named, arrives, arriveRows, doneRows, advanceRows, askRows, marginRows, portionOf, Arrived, Finished, Advanced, AskedFor, ActiveTold, MarginTold, Freshened, TableChecked, NoTableMade, TableRead, EntriesHanded, NumberTold, ImageChecked, TableWritten, Call, advances, numberGiven, stateAfter, run}
-use Rattle.rules.specs.Walks.{usedOf, useIn, Walked, noPortion}
+use Rattle.rules.specs.Walks.{declaredUse, useIn, Walked, noLine}
 use Rattle.promises.specs.Runs.{afterAll, events, passed, ownTicks, lentTicks}
 use Rattle.promises.specs.Needed.{line212State, overfullRows, line212Rows}
 use Rattle.rules.specs.Samples.{alone}
@@ -92,7 +92,7 @@ pub record RefusalGivesBack : Type 0 where
   pub advance : (s : State) (k : ℕ) (r : Outcome) → Advanced s k r → 0 < numberOf (r .answer) → r .state ≡ s
   pub walk :
       (s : State) (k : ℕ) (r : Walk) → Walked s k r → 0 < numberOf (r .answer)
-      → (r .state ≡ s) × (r .left ≡ 0) × (r .count ≡ 0) × (r .portions ≡ replicate portionPlaces noPortion)
+      → (r .state ≡ s) × (r .left ≡ 0) × (r .count ≡ 0) × (r .lines ≡ replicate linePlaces noLine)
   pub ask : (s : State) (r : Asked) → AskedFor s r → 0 < numberOf (r .answer) → r .next ≡ Nothing
   pub active : (s : State) (r : Activity) → ActiveTold s r → 0 < numberOf (r .answer) → (r .mask ≡ 0) × (r .count ≡ 0)
   pub margin : (s : State) (i : ℕ) (r : Margin) → MarginTold s i r → 0 < numberOf (r .answer) → r .ticks ≡ pos 0
@@ -303,9 +303,9 @@ pub record RoundTrip : Type 0 where
 -- the number and the values determine an answer
 pub record AnswersDetermined : Type 0 where
   pub number : (a b : Answer) → numberOf a ≡ numberOf b → a ≡ b
-  pub portion : (x y : Next) → portionOf x ≡ portionOf y → x ≡ y
-  pub use-of : (x y : Used) → useIn x ≡ useIn y → x ≡ y
-  pub use-said : (u : Use) → useIn (usedOf u) ≡ u
+  pub portion : (x y : DeclaredPortion) → portionOf x ≡ portionOf y → x ≡ y
+  pub use-of : (x y : DeclaredUse) → useIn x ≡ useIn y → x ≡ y
+  pub use-said : (u : Use) → useIn (declaredUse u) ≡ u
 
 -- any two outcomes that a call's predicate allows are equal
 pub record OneOutcome : Type 0 where

@@ -333,11 +333,11 @@ walks-held =
     record {
       used = refl;
       says = refl;
-      empty = refl;
+      no-line = refl;
       ticks = refl;
-      walked = record { answer = refl; state = refl; left = refl; count = refl; portions = refl };
-      walked-to-the-end = record { answer = refl; state = refl; left = refl; count = refl; portions = refl };
-      walked-refused = record { answer = refl; state = refl; left = refl; count = refl; portions = refl };
+      walked = record { answer = refl; state = refl; left = refl; count = refl; lines = refl };
+      walked-to-the-end = record { answer = refl; state = refl; left = refl; count = refl; lines = refl };
+      walked-refused = record { answer = refl; state = refl; left = refl; count = refl; lines = refl };
       portions = refl;
       left = refl;
       left-at-the-end = refl;

@@ -7,7 +7,7 @@ use Rattle.rules.specs.declared.State.{State}
 use Rattle.rules.specs.declared.Refusal.the-variants.{NotSound, NoSuchGuest, GuestIdle, EndOfTime, ShareTooLarge, NoRoom}
 use Rattle.rules.specs.declared.Answer.the-variants.{Went, Refused}
 use Rattle.rules.specs.declared.Source.the-variants.{Own, SpareOf}
-use Rattle.rules.specs.declared.Next.the-variants.{Run, Burn, Nothing}
+use Rattle.rules.specs.declared.Portion.the-variants.{Run, Burn, Nothing}
 use Rattle.rules.specs.Table.{noTable}
 use Rattle.rules.specs.Model.{guest, spare}
 use Rattle.rules.specs.Steps.{ownBudget, spareOf, runs, burns, nothing, limited, endless, portion}

@@ -6,21 +6,22 @@ use lib.ListN.{length, replicate}
 use Rattle.rules.specs.declared.State.{State}
 use Rattle.rules.specs.declared.Refusal.the-variants.{EndOfTime}
 use Rattle.rules.specs.declared.Answer.the-variants.{Went, Refused}
-use Rattle.rules.specs.declared.Used.{Used}
-use Rattle.rules.specs.declared.Used.the-variants.{Own, SpareOf, Burned, Idle}
-use Rattle.rules.specs.declared.Portion.{Portion as PortionPlace}
+use Rattle.rules.specs.declared.Source.the-variants.{Own, SpareOf}
+use Rattle.rules.specs.declared.Use.{Use as DeclaredUse}
+use Rattle.rules.specs.declared.Use.the-variants.{Run, Burn, Nothing}
+use Rattle.rules.specs.declared.Line.{Line as LinePlace}
 use Rattle.rules.specs.Model.{guest, spare}
 use Rattle.rules.specs.Steps.{ownBudget, spareOf, runs, burns, nothing, limited, endless}
 use Rattle.rules.specs.Places.{packed}
 use Rattle.rules.specs.Calls.{arrives, finishes, advances, asks, asksActive, asksMargin}
 use Rattle.rules.specs.Lines.{line, ticksOn, lines, linesOf, listing}
-use Rattle.rules.specs.Walks.{ticksIn, usedOf, useIn, noPortion, walkLines, walkState, walkLeft, Walked}
+use Rattle.rules.specs.Walks.{ticksIn, declaredUse, useIn, noLine, walkLines, walkState, walkLeft, Walked}
 use Rattle.rules.specs.Samples.{running, resting, leftovers, sampleModel, sample, lone}
 use Rattle.rules.specs.HeldSteps.{of, at10, then}
 
--- a portion in its place
-abbrev pub portionIn : ℕ → ℕ → Used → PortionPlace
-portionIn first end used = record { first = first; end = end; used = used }
+-- a line in its place
+abbrev pub lineIn : ℕ → ℕ → DeclaredUse → LinePlace
+lineIn first end used = record { first = first; end = end; used = used }
 
 -- "one line per portion"
 pub record LinesHeld : Type 0 where
@@ -44,9 +45,9 @@ pub record LinesHeld : Type 0 where
 
 -- a walk
 pub record WalksHeld : Type 0 where
-  pub used : map usedOf (runs 1 ownBudget ∷ runs 1 (spareOf 4) ∷ burns 4 ∷ nothing ∷ []) ≡ Own 1 ∷ SpareOf 1 4 ∷ Burned 4 ∷ Idle ∷ []
-  pub says : map useIn (Own 1 ∷ SpareOf 1 4 ∷ Burned 4 ∷ Idle ∷ []) ≡ runs 1 ownBudget ∷ runs 1 (spareOf 4) ∷ burns 4 ∷ nothing ∷ []
-  pub empty : noPortion ≡ portionIn 0 0 Idle
+  pub used : map declaredUse (runs 1 ownBudget ∷ runs 1 (spareOf 4) ∷ burns 4 ∷ nothing ∷ []) ≡ Run 1 Own ∷ Run 1 (SpareOf 4) ∷ Burn 4 ∷ Nothing ∷ []
+  pub says : map useIn (Run 1 Own ∷ Run 1 (SpareOf 4) ∷ Burn 4 ∷ Nothing ∷ []) ≡ runs 1 ownBudget ∷ runs 1 (spareOf 4) ∷ burns 4 ∷ nothing ∷ []
+  pub no-line : noLine ≡ lineIn 0 0 Nothing
   -- the ticks of the first portions
   pub ticks : (ticksIn 0 7 sampleModel ∷ ticksIn 1 7 sampleModel ∷ ticksIn 2 7 sampleModel ∷ ticksIn 3 7 sampleModel ∷ ticksIn 3 0 sampleModel ∷ []) ≡ 0 ∷ 4 ∷ 5 ∷ 7 ∷ 0 ∷ []
   pub walked :
@@ -56,7 +57,7 @@ pub record WalksHeld : Type 0 where
         state = packed (then 17 (guest 3 12 2 2 30 3 8 ∷ resting ∷ []) (spare 24 0 1 ∷ []) 1 2);
         left = 0;
         count = 3;
-        portions = portionIn 10 14 (SpareOf 0 1) ∷ portionIn 14 15 (SpareOf 0 1) ∷ portionIn 15 17 (SpareOf 0 0) ∷ replicate 61 (portionIn 0 0 Idle);
+        lines = lineIn 10 14 (Run 0 (SpareOf 1)) ∷ lineIn 14 15 (Run 0 (SpareOf 1)) ∷ lineIn 15 17 (Run 0 (SpareOf 0)) ∷ replicate 61 (lineIn 0 0 Nothing);
       })
   pub walked-to-the-end :
       Walked (lone 1099511627771 0 0 0) 5
@@ -65,7 +66,7 @@ pub record WalksHeld : Type 0 where
         state = lone 1099511627776 0 0 0;
         left = 0;
         count = 1;
-        portions = portionIn 1099511627771 1099511627776 Idle ∷ replicate 63 (portionIn 0 0 Idle);
+        lines = lineIn 1099511627771 1099511627776 Nothing ∷ replicate 63 (lineIn 0 0 Nothing);
       })
   pub walked-refused :
       Walked (lone 1099511627776 0 0 0) 1
@@ -74,7 +75,7 @@ pub record WalksHeld : Type 0 where
         state = lone 1099511627776 0 0 0;
         left = 0;
         count = 0;
-        portions = replicate 64 (portionIn 0 0 Idle);
+        lines = replicate 64 (lineIn 0 0 Nothing);
       })
   -- a walk answers 64 portions: a guest (1, 1) has one in each tick
   pub portions : length (walkLines 65 (lone 0 1 1 1)) ≡ 64

@@ -5,7 +5,7 @@ pub const GUEST_PLACES: usize = 16;
 
 pub const SPARE_PLACES: usize = 64;
 
-pub const PORTION_PLACES: usize = 64;
+pub const LINE_PLACES: usize = 64;
 
 pub const MOST_JOBS: u64 = 255;
 
@@ -99,9 +99,16 @@ pub enum Source {
     SpareOf(usize),
 }
 
+// What a tick uses: a guest runs (number, source), a spare burns (owner), or nothing.
+pub enum Use {
+    Run(usize, Source),
+    Burn(usize),
+    Nothing,
+}
+
 // What the next tick would do: a guest runs (number, source, deadline, span), a spare burns (owner,
 // deadline, span), or nothing.
-pub enum Next {
+pub enum Portion {
     Run(usize, Source, u64, u64),
     Burn(usize, u64, u64),
     Nothing,
@@ -109,33 +116,24 @@ pub enum Next {
 
 pub struct Asked {
     pub answer: Answer,
-    pub next: Next,
+    pub next: Portion,
 }
 
-// What a portion of an advance used: guest's own budget, a spare (guest that ran, owner), a spare burned
-// idle (owner), or nothing.
-pub enum Used {
-    Own(usize),
-    SpareOf(usize, usize),
-    Burned(usize),
-    Idle,
-}
-
-// A portion of an advance, from its first tick to the tick it ends at.
-pub struct Portion {
+// A portion of an advance as the listing shows it: its first tick, the tick it ends at, and what it used.
+pub struct Line {
     pub first: u64,
     pub end: u64,
-    pub used: Used,
+    pub used: Use,
 }
 
-// What a walk gives: its first portions, `count` of them, the state after them, and the ticks that are
+// What a walk gives: the lines of its first portions, `count` of them, the state after them, and the ticks that are
 // left to walk.
 pub struct Walk {
     pub answer: Answer,
     pub state: State,
     pub left: u64,
     pub count: usize,
-    pub portions: [Portion; PORTION_PLACES],
+    pub lines: [Line; LINE_PLACES],
 }
 
 // Bit i of the mask stands for guest i; `count` is the number of its ones.

@@ -17,17 +17,17 @@ use Rattle.rules.specs.declared.State.{State}
 use Rattle.rules.specs.declared.Refusal.{Refusal}
 use Rattle.rules.specs.declared.Answer.{Answer}
 use Rattle.rules.specs.declared.Answer.the-variants.{Went, Refused}
-use Rattle.rules.specs.declared.Portion.{Portion}
+use Rattle.rules.specs.declared.Line.{Line as LinePlace}
 use Rattle.rules.specs.declared.Walk.{Walk}
-use Rattle.rules.specs.Limits.{guestPlaces, portionPlaces}
+use Rattle.rules.specs.Limits.{guestPlaces, linePlaces}
 use Rattle.rules.specs.Refusals.{first, numberOf}
 use Rattle.rules.specs.Table.{tableRows}
 use Rattle.rules.specs.Model.{Model}
-use Rattle.rules.specs.Steps.{ask, advance}
+use Rattle.rules.specs.Steps.{spanOf, ask, advance}
 use Rattle.rules.specs.Places.{model, freshState, noState}
 use Rattle.rules.specs.Calls.{advanceRows, told, kept, Freshened, NumberTold}
 use Rattle.rules.specs.Lines.{ticksOn, lines}
-use Rattle.rules.specs.Walks.{portionPlace, noPortion, walkLines, Walked}
+use Rattle.rules.specs.Walks.{linePlace, noLine, walkLines, Walked}
 use Rattle.promises.proofs.Outcomes.{refusal-counts}
 use Rattle.text.specs.Lines.{portionBytes, refusalBytes, lineRoom, hasRoom, LinePut}
 use Rattle.listing.specs.declared.Held.{Held}
@@ -58,28 +58,28 @@ module _ {bytes buffer after : List ℕ} {filled r : ℕ} (l : LinePut bytes buf
 
 -- ---- portions, one behind the other
 
-portions-join : (ps qs : List Portion) → portionsBytes (ps ++ qs) ≡ portionsBytes ps ++ portionsBytes qs
+portions-join : (ps qs : List LinePlace) → portionsBytes (ps ++ qs) ≡ portionsBytes ps ++ portionsBytes qs
 portions-join [] qs = refl
 portions-join (p ∷ ps) qs = rw (portions-join ps qs, append-assoc)
 
 -- one portion more
-portions-more : (ps : List Portion) (i : ℕ) (z : Portion) → i < length ps → portionsBytes (take (i + 1) ps) ≡ portionsBytes (take i ps) ++ portionBytes (getD ps i z)
+portions-more : (ps : List LinePlace) (i : ℕ) (z : LinePlace) → i < length ps → portionsBytes (take (i + 1) ps) ≡ portionsBytes (take i ps) ++ portionBytes (getD ps i z)
 portions-more ps i z h = rw (add-one i, take-suc ps i z h, portions-join (take i ps) (getD ps i z ∷ []), append-nil)
 
 -- after is what was before, with the lines of the first i portions behind the bytes that it held
-pub record Shown (ps : List Portion) (before : List ℕ) (filled i : ℕ) (after : List ℕ) (end : ℕ) : Type 0 where
+pub record Shown (ps : List LinePlace) (before : List ℕ) (filled i : ℕ) (after : List ℕ) (end : ℕ) : Type 0 where
   pub holds : end ≡ filled + length (portionsBytes (take i ps))
   pub content : after ≡ sets before filled (portionsBytes (take i ps))
   pub short : end ≤ filled + i * lineRoom
 
-pub shown-start : (ps : List Portion) (before : List ℕ) (filled : ℕ) → Shown ps before filled 0 before filled
+pub shown-start : (ps : List LinePlace) (before : List ℕ) (filled : ℕ) → Shown ps before filled 0 before filled
 shown-start ps before filled = record { holds = omega arith; content = refl; short = omega arith }
 
-module _ {ps : List Portion} {before : List ℕ} {filled i : ℕ} {after : List ℕ} {end : ℕ} (s : Shown ps before filled i after end) where
+module _ {ps : List LinePlace} {before : List ℕ} {filled i : ℕ} {after : List ℕ} {end : ℕ} (s : Shown ps before filled i after end) where
   pub shown-long : length after ≡ length before
   shown-long = ap length (s .content) ∙ length-sets before filled (portionsBytes (take i ps))
 
-  pub shown-more : (z : Portion) {next : List ℕ} {r : ℕ} → i < length ps → end + lineRoom ≤ length after → LinePut (portionBytes (getD ps i z)) after end next r
+  pub shown-more : (z : LinePlace) {next : List ℕ} {r : ℕ} → i < length ps → end + lineRoom ≤ length after → LinePut (portionBytes (getD ps i z)) after end next r
       → Shown ps before filled (i + 1) next r
   shown-more z h room l =
       let line = portionBytes (getD ps i z) in
@@ -91,10 +91,10 @@ module _ {ps : List Portion} {before : List ℕ} {filled i : ℕ} {after : List 
         short = omega (arith, s .short, l .short);
       }
 
-  pub shown-end : (n : ℕ) → i ≡ n → n ≤ portionPlaces → PortionsPut (take n ps) before filled after end
+  pub shown-end : (n : ℕ) → i ≡ n → n ≤ linePlaces → PortionsPut (take n ps) before filled after end
   shown-end n e few = rw (← e) (record { holds = s .holds; content = s .content; short = omega (arith, s .short) })
 
-module _ {ps : List Portion} {before after : List ℕ} {filled r : ℕ} (p : PortionsPut ps before filled after r) where
+module _ {ps : List LinePlace} {before after : List ℕ} {filled r : ℕ} (p : PortionsPut ps before filled after r) where
   pub portions-long : length after ≡ length before
   portions-long = ap length (p .content) ∙ length-sets before filled (portionsBytes ps)
 
@@ -152,25 +152,25 @@ lines-few : (most k : ℕ) (m : Model) → length (lines most k m) ≤ most
 unfolding lines
 lines-few zero k m = omega arith
 lines-few (suc most) zero m = omega arith
-lines-few (suc most) (suc k) m = omega (arith, lines-few most (suc k - ticksOn (suc k) (ask m)) (advance (ticksOn (suc k) (ask m)) m))
+lines-few (suc most) (suc k) m = omega (arith, lines-few most (suc k - ticksOn (suc k) (spanOf (ask m))) (advance (ticksOn (suc k) (spanOf (ask m))) m))
 
-few-lines : (s : State) (k : ℕ) → length (walkLines k s) ≤ portionPlaces
+few-lines : (s : State) (k : ℕ) → length (walkLines k s) ≤ linePlaces
 unfolding walkLines
-few-lines s k = by-index (λ n. length (told n (lines portionPlaces k) [] s) ≤ portionPlaces) (lines-few portionPlaces k (model s)) (λ n. omega arith) (first (advanceRows s k))
+few-lines s k = by-index (λ n. length (told n (lines linePlaces k) [] s) ≤ linePlaces) (lines-few linePlaces k (model s)) (λ n. omega arith) (first (advanceRows s k))
 
 module _ {s : State} {k : ℕ} {w : Walk} (d : Walked s k w) where
   -- there are no more portions than places
-  pub walk-few : w .count ≤ portionPlaces
+  pub walk-few : w .count ≤ linePlaces
   walk-few = omega (arith, d .count, few-lines s k)
 
   -- those that are in use are the walk's
-  pub walk-used : take (w .count) (w .portions) ≡ map portionPlace (walkLines k s)
+  pub walk-used : take (w .count) (w .lines) ≡ map linePlace (walkLines k s)
   walk-used =
-      ap (take (w .count)) (d .portions)
-      ∙ take-padded portionPlaces noPortion (w .count) (map portionPlace (walkLines k s)) (length-map (walkLines k s) portionPlace ∙ sym (d .count))
+      ap (take (w .count)) (d .lines)
+      ∙ take-padded linePlaces noLine (w .count) (map linePlace (walkLines k s)) (length-map (walkLines k s) linePlace ∙ sym (d .count))
 
   module _ (end : ℕ) (h : Held) (same : h .state ≡ s) {held : Held} (f : held ≡ goingOn end (h .table) (w .state) (w .left)) where
-    pub walk-went : w .answer ≡ Went → walks k end h ≡ step (portionsBytes (take (w .count) (w .portions))) held
+    pub walk-went : w .answer ≡ Went → walks k end h ≡ step (portionsBytes (take (w .count) (w .lines))) held
     walk-went e =
         let none : first (advanceRows s k) ≡ 0 = sym (d .answer) ∙ ap numberOf e in
         rw (f, same, none, walk-used, d .state, d .left) refl

@@ -4,7 +4,7 @@ use mathlib.Core.List.{List}
 use Prim.Native.Nat.{ℕ, _+_, _≤_}
 use lib.ListN.{length}
 use lib.Seq.{sets}
-use Rattle.rules.specs.declared.Portion.{Portion}
+use Rattle.rules.specs.declared.Line.{Line as LinePlace}
 use Rattle.rules.specs.declared.Outcome.{Outcome}
 use Rattle.rules.specs.Refusals.{numberOf}
 use Rattle.listing.specs.declared.Held.{Held}
@@ -20,7 +20,7 @@ pub record Did (s : Step) (buffer : List ℕ) (filled : ℕ) (after : List ℕ) 
   pub short : r .filled ≤ filled + stepRoom
 
 -- portions put one behind the other
-pub record PortionsPut (ps : List Portion) (buffer : List ℕ) (filled : ℕ) (after : List ℕ) (r : ℕ) : Type 0 where
+pub record PortionsPut (ps : List LinePlace) (buffer : List ℕ) (filled : ℕ) (after : List ℕ) (r : ℕ) : Type 0 where
   pub holds : r ≡ filled + length (portionsBytes ps)
   pub content : after ≡ sets buffer filled (portionsBytes ps)
   pub short : r ≤ filled + stepRoom

@@ -61,8 +61,8 @@ fn walked(k: u64, end: usize, h: Held, buffer: &mut [u8], filled: usize) -> Step
         let filled = lines::put_refusal(number as u64, buffer, filled);
         return Stepped { held, filled };
     };
-    let portions = walk.portions;
-    let filled = put_portions(portions, walk.count, buffer, filled);
+    let lines = walk.lines;
+    let filled = put_portions(lines, walk.count, buffer, filled);
     Stepped { held, filled }
 }
 

@@ -7,7 +7,7 @@ use lines::LINE_ROOM;
 use listing::Held;
 use listing::Stage;
 use listing::Stepped;
-use rules::PORTION_PLACES;
+use rules::LINE_PLACES;
 
 mod commands;
 mod input;
@@ -15,7 +15,7 @@ mod put;
 mod tables;
 
 // A step puts out at most the portions of one walk.
-pub const STEP_ROOM: usize = PORTION_PLACES * LINE_ROOM;
+pub const STEP_ROOM: usize = LINE_PLACES * LINE_ROOM;
 
 pub fn step(input: &[u8], h: Held, buffer: &mut [u8], filled: usize) -> Stepped
     ensures { λ r. ⌜ Stepping (now (input .entry)) h (now (buffer .entry)) filled (now (buffer .exit)) r ⌝ }

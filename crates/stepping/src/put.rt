@@ -2,7 +2,7 @@
 ghost use mathlib.Core.Path.{_≡_};
 ghost use Prim.Native.Nat.{_+_, _≤_};
 ghost use lib.ListN.{length, take};
-ghost use Rattle.rules.specs.Limits.{portionPlaces};
+ghost use Rattle.rules.specs.Limits.{linePlaces};
 ghost use Rattle.rules.specs.Refusals.{numberOf};
 ghost use Rattle.text.specs.Script.{malformed};
 ghost use Rattle.listing.specs.Stepping.{stepRoom, over, stops};
@@ -11,8 +11,8 @@ use listing::Held;
 use listing::Stage;
 use listing::Stepped;
 use rules::Answer;
-use rules::PORTION_PLACES;
-use rules::Portion;
+use rules::LINE_PLACES;
+use rules::Line;
 use rules::Refusal;
 
 // Nothing comes any more.
@@ -51,19 +51,19 @@ pub(crate) fn malformed(h: Held, buffer: &mut [u8], filled: usize) -> Stepped
 }
 
 pub(crate) fn put_portions(
-    portions: [Portion; PORTION_PLACES],
+    lines: [Line; LINE_PLACES],
     count: usize,
     buffer: &mut [u8],
     filled: usize,
 ) -> usize
-    requires { ⌜ (count ≤ portionPlaces) × (filled + stepRoom ≤ length (now buffer)) ⌝ }
-    ensures { λ r. ⌜ PortionsPut (take count portions) (now (buffer .entry)) filled (now (buffer .exit)) r ⌝ }
+    requires { ⌜ (count ≤ linePlaces) × (filled + stepRoom ≤ length (now buffer)) ⌝ }
+    ensures { λ r. ⌜ PortionsPut (take count lines) (now (buffer .entry)) filled (now (buffer .exit)) r ⌝ }
 {
     let mut end = filled;
     let mut i: usize = 0;
     while i < count {
-        let p = portions[i];
-        end = lines::put_portion(p, buffer, end);
+        let line = lines[i];
+        end = lines::put_portion(line, buffer, end);
         i = i + 1;
     }
     end

@@ -14,7 +14,7 @@ use Rattle.rules.specs.Places.{freshState}
 use Rattle.rules.specs.Sound.{sound}
 use Rattle.rules.specs.Calls.{Call, arrives, finishes, advances, advanceRows, told, numberGiven, stateAfter}
 use Rattle.rules.specs.Lines.{Line as PortionLine, lines, linesOf}
-use Rattle.rules.specs.Walks.{portionPlace, walkLines, walkState, walkLeft}
+use Rattle.rules.specs.Walks.{linePlace, walkLines, walkState, walkLeft}
 use Rattle.promises.proofs.Calling.{MayAdvance, may-advance, may-stay, advance-allowed, advance-nothing, sound-kept}
 use Rattle.promises.proofs.Starting.{fresh-is-sound}
 use Rattle.promises.proofs.Walks.{walk-on, walk-joins, walk-reaches}
@@ -31,7 +31,7 @@ use Rattle.steps.proofs.Inputs.{asked-end, asked-cons, line-end}
 
 -- ---- portions
 
-portions-append : (a b : List PortionLine) → portionsBytes (map portionPlace (a ++ b)) ≡ portionsBytes (map portionPlace a) ++ portionsBytes (map portionPlace b)
+portions-append : (a b : List PortionLine) → portionsBytes (map linePlace (a ++ b)) ≡ portionsBytes (map linePlace a) ++ portionsBytes (map linePlace b)
 portions-append [] b = refl
 portions-append (l ∷ ls) b = rw (portions-append ls b, append-assoc)
 
@@ -48,7 +48,7 @@ lines-nothing s = go (first (advanceRows s 0))
 
 -- the portions that an `R` has left, and then the lines behind it
 abbrev pub owed : State → ℕ → List Line → List ℕ
-owed s left ls = portionsBytes (map portionPlace (linesOf (advances left) s)) ++ commands (stateAfter (advances left) s) ls
+owed s left ls = portionsBytes (map linePlace (linesOf (advances left) s)) ++ commands (stateAfter (advances left) s) ls
 
 -- with nothing left, the lines alone
 pub owed-nothing : (s : State) (ls : List Line) → owed s 0 ls ≡ commands s ls
@@ -102,12 +102,12 @@ module _ (s : State) (k : ℕ) (ls : List Line) where
   -- the portions of a walk, and then those of what it left
   walk-put : (n : ℕ) → first (advanceRows s k) ≡ n
       → printed (advances k) s ++ commands (stateAfter (advances k) s) ls
-      ≡ refusalIn (numberGiven (advances k) s) ++ portionsBytes (map portionPlace (walkLines k s)) ++ owed (walkState k s) (walkLeft k s) ls
+      ≡ refusalIn (numberGiven (advances k) s) ++ portionsBytes (map linePlace (walkLines k s)) ++ owed (walkState k s) (walkLeft k s) ls
   unfolding printed
   walk-put zero e =
       let a = may-advance s k e in
       rw (e, walk-joins s k a, walk-reaches s k a, portions-append)
-      (append-assoc (portionsBytes (map portionPlace (walkLines k s))) (portionsBytes (map portionPlace (linesOf (advances (walkLeft k s)) (walkState k s)))) (commands (stateAfter (advances (walkLeft k s)) (walkState k s)) ls))
+      (append-assoc (portionsBytes (map linePlace (walkLines k s))) (portionsBytes (map linePlace (linesOf (advances (walkLeft k s)) (walkState k s)))) (commands (stateAfter (advances (walkLeft k s)) (walkState k s)) ls))
   walk-put (suc n) e =
       rw (refused-lines s k n e .0, refused-lines s k n e .1, refused-state s k n e .0, refused-state s k n e .1, refused-left s k n e, owed-nothing s ls) refl
 

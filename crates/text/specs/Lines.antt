@@ -6,9 +6,11 @@ use Prim.Native.Nat.{ℕ, _+_, _≤_}
 use lib.Dec.{leb}
 use lib.ListN.{length}
 use lib.Seq.{sets}
-use Rattle.rules.specs.declared.Used.{Used}
-use Rattle.rules.specs.declared.Used.the-variants.{Own, SpareOf, Burned, Idle}
-use Rattle.rules.specs.declared.Portion.{Portion}
+use Rattle.rules.specs.declared.Source.{Source}
+use Rattle.rules.specs.declared.Source.the-variants.{Own, SpareOf}
+use Rattle.rules.specs.declared.Use.{Use}
+use Rattle.rules.specs.declared.Use.the-variants.{Run, Burn, Nothing}
+use Rattle.rules.specs.declared.Line.{Line as LinePlace}
 use Rattle.text.specs.Decimal.{decimal}
 
 -- ---- the lines
@@ -25,15 +27,20 @@ spaced n = 32 ∷ decimal n
 abbrev pub closed : ℕ → ℕ → List ℕ
 closed n last = spaced n ++ (last ∷ [])
 
+-- "the owner followed by `o` (own) or `s` (spare)"; a guest's own budget is its own
+unfoldable pub sourceBytes : ℕ → Source → List ℕ
+sourceBytes guest Own = closed guest 111
+sourceBytes guest (SpareOf owner) = closed owner 115
+
 -- "guest or `-`, and the owner followed by `o` (own) or `s` (spare), or `-`"
-unfoldable pub usedBytes : Used → List ℕ
-usedBytes (Own i) = spaced i ++ closed i 111
-usedBytes (SpareOf i owner) = spaced i ++ closed owner 115
-usedBytes (Burned owner) = dash ++ closed owner 115
-usedBytes Idle = dash ++ dash
+unfoldable pub usedBytes : Use → List ℕ
+unfolding sourceBytes
+usedBytes (Run guest source) = spaced guest ++ sourceBytes guest source
+usedBytes (Burn owner) = dash ++ closed owner 115
+usedBytes Nothing = dash ++ dash
 
 -- "one line per portion: first tick, end tick", and what it used
-unfoldable pub portionBytes : Portion → List ℕ
+unfoldable pub portionBytes : LinePlace → List ℕ
 unfolding usedBytes
 portionBytes p = decimal (p .first) ++ spaced (p .end) ++ usedBytes (p .used) ++ (10 ∷ [])
 

@@ -4,9 +4,10 @@ use mathlib.Core.Bool.{true, false}
 use mathlib.Core.List.{List, [], _∷_, _++_}
 use Prim.Native.Nat.{ℕ}
 use lib.ListN.{replicate}
-use Rattle.rules.specs.declared.Used.{Used}
-use Rattle.rules.specs.declared.Used.the-variants.{Own, SpareOf, Burned, Idle}
-use Rattle.rules.specs.declared.Portion.{Portion}
+use Rattle.rules.specs.declared.Source.the-variants.{Own, SpareOf}
+use Rattle.rules.specs.declared.Use.{Use as DeclaredUse}
+use Rattle.rules.specs.declared.Use.the-variants.{Run, Burn, Nothing}
+use Rattle.rules.specs.declared.Line.{Line as LinePlace}
 use Rattle.text.specs.declared.Line.the-variants.{Frame}
 use Rattle.text.specs.Numbers.{noNumber, got, numberAt}
 use Rattle.text.specs.Script.{Said, says, refuses, saidBy, lineOf, LineTold}
@@ -120,8 +121,8 @@ pub record LinesRefused : Type 0 where
 
 -- ---- a line of output
 
-abbrev pub portion : ℕ → ℕ → Used → Portion
-portion first end used = record { first = first; end = end; used = used }
+abbrev pub shown : ℕ → ℕ → DeclaredUse → LinePlace
+shown first end used = record { first = first; end = end; used = used }
 
 -- numbers in decimal
 pub record NumbersWritten : Type 0 where
@@ -138,12 +139,12 @@ pub record NumbersWritten : Type 0 where
 pub record LinesWritten : Type 0 where
   -- "first tick, end tick, guest or `-`, and the owner followed by `o` (own) or `s` (spare), or `-`": `0 2 0 0o`, `99 100 15 15o`,
   -- `2 3 1 0s`, `10 11 9 12s`, `8 11 - 0s`, `11 13 - -`
-  pub own : portionBytes (portion 0 2 (Own 0)) ≡ 48 ∷ 32 ∷ 50 ∷ 32 ∷ 48 ∷ 32 ∷ 48 ∷ 111 ∷ 10 ∷ []
-  pub ownOther : portionBytes (portion 99 100 (Own 15)) ≡ 57 ∷ 57 ∷ 32 ∷ 49 ∷ 48 ∷ 48 ∷ 32 ∷ 49 ∷ 53 ∷ 32 ∷ 49 ∷ 53 ∷ 111 ∷ 10 ∷ []
-  pub spare : portionBytes (portion 2 3 (SpareOf 1 0)) ≡ 50 ∷ 32 ∷ 51 ∷ 32 ∷ 49 ∷ 32 ∷ 48 ∷ 115 ∷ 10 ∷ []
-  pub spareOther : portionBytes (portion 10 11 (SpareOf 9 12)) ≡ 49 ∷ 48 ∷ 32 ∷ 49 ∷ 49 ∷ 32 ∷ 57 ∷ 32 ∷ 49 ∷ 50 ∷ 115 ∷ 10 ∷ []
-  pub burned : portionBytes (portion 8 11 (Burned 0)) ≡ 56 ∷ 32 ∷ 49 ∷ 49 ∷ 32 ∷ 45 ∷ 32 ∷ 48 ∷ 115 ∷ 10 ∷ []
-  pub idle : portionBytes (portion 11 13 Idle) ≡ 49 ∷ 49 ∷ 32 ∷ 49 ∷ 51 ∷ 32 ∷ 45 ∷ 32 ∷ 45 ∷ 10 ∷ []
+  pub own : portionBytes (shown 0 2 (Run 0 Own)) ≡ 48 ∷ 32 ∷ 50 ∷ 32 ∷ 48 ∷ 32 ∷ 48 ∷ 111 ∷ 10 ∷ []
+  pub ownOther : portionBytes (shown 99 100 (Run 15 Own)) ≡ 57 ∷ 57 ∷ 32 ∷ 49 ∷ 48 ∷ 48 ∷ 32 ∷ 49 ∷ 53 ∷ 32 ∷ 49 ∷ 53 ∷ 111 ∷ 10 ∷ []
+  pub spare : portionBytes (shown 2 3 (Run 1 (SpareOf 0))) ≡ 50 ∷ 32 ∷ 51 ∷ 32 ∷ 49 ∷ 32 ∷ 48 ∷ 115 ∷ 10 ∷ []
+  pub spareOther : portionBytes (shown 10 11 (Run 9 (SpareOf 12))) ≡ 49 ∷ 48 ∷ 32 ∷ 49 ∷ 49 ∷ 32 ∷ 57 ∷ 32 ∷ 49 ∷ 50 ∷ 115 ∷ 10 ∷ []
+  pub burned : portionBytes (shown 8 11 (Burn 0)) ≡ 56 ∷ 32 ∷ 49 ∷ 49 ∷ 32 ∷ 45 ∷ 32 ∷ 48 ∷ 115 ∷ 10 ∷ []
+  pub idle : portionBytes (shown 11 13 Nothing) ≡ 49 ∷ 49 ∷ 32 ∷ 49 ∷ 51 ∷ 32 ∷ 45 ∷ 32 ∷ 45 ∷ 10 ∷ []
   -- "print `! number`": `! 1`, `! 9`, `! 10`, `! 16`
   pub refusal1 : refusalBytes 1 ≡ 33 ∷ 32 ∷ 49 ∷ 10 ∷ []
   pub refusal9 : refusalBytes 9 ≡ 33 ∷ 32 ∷ 57 ∷ 10 ∷ []
@@ -164,7 +165,7 @@ pub record LinesPut : Type 0 where
   -- `end 0` behind a hundred bytes: what stands in front of it and behind it stays
   pub between : LinePut (endBytes 0) (replicate 185 7) 100 (replicate 100 7 ++ (101 ∷ 110 ∷ 100 ∷ 32 ∷ 48 ∷ 10 ∷ []) ++ replicate 79 7) 106
   -- the longest line takes the whole buffer
-  pub whole : LinePut (portionBytes (portion 18446744073709551615 18446744073709551615 (SpareOf 18446744073709551615 18446744073709551615))) (replicate 85 7) 0 (49 ∷ 56 ∷ 52 ∷ 52 ∷ 54 ∷ 55 ∷ 52 ∷ 52 ∷ 48 ∷ 55 ∷ 51 ∷ 55 ∷ 48 ∷ 57 ∷ 53 ∷ 53 ∷ 49 ∷ 54 ∷ 49 ∷ 53 ∷ 32 ∷ 49 ∷ 56 ∷ 52 ∷ 52 ∷ 54 ∷ 55 ∷ 52 ∷ 52 ∷ 48 ∷ 55 ∷ 51 ∷ 55 ∷ 48 ∷ 57 ∷ 53 ∷ 53 ∷ 49 ∷ 54 ∷ 49 ∷ 53 ∷ 32 ∷ 49 ∷ 56 ∷ 52 ∷ 52 ∷ 54 ∷ 55 ∷ 52 ∷ 52 ∷ 48 ∷ 55 ∷ 51 ∷ 55 ∷ 48 ∷ 57 ∷ 53 ∷ 53 ∷ 49 ∷ 54 ∷ 49 ∷ 53 ∷ 32 ∷ 49 ∷ 56 ∷ 52 ∷ 52 ∷ 54 ∷ 55 ∷ 52 ∷ 52 ∷ 48 ∷ 55 ∷ 51 ∷ 55 ∷ 48 ∷ 57 ∷ 53 ∷ 53 ∷ 49 ∷ 54 ∷ 49 ∷ 53 ∷ 115 ∷ 10 ∷ []) 85
+  pub whole : LinePut (portionBytes (shown 18446744073709551615 18446744073709551615 (Run 18446744073709551615 (SpareOf 18446744073709551615)))) (replicate 85 7) 0 (49 ∷ 56 ∷ 52 ∷ 52 ∷ 54 ∷ 55 ∷ 52 ∷ 52 ∷ 48 ∷ 55 ∷ 51 ∷ 55 ∷ 48 ∷ 57 ∷ 53 ∷ 53 ∷ 49 ∷ 54 ∷ 49 ∷ 53 ∷ 32 ∷ 49 ∷ 56 ∷ 52 ∷ 52 ∷ 54 ∷ 55 ∷ 52 ∷ 52 ∷ 48 ∷ 55 ∷ 51 ∷ 55 ∷ 48 ∷ 57 ∷ 53 ∷ 53 ∷ 49 ∷ 54 ∷ 49 ∷ 53 ∷ 32 ∷ 49 ∷ 56 ∷ 52 ∷ 52 ∷ 54 ∷ 55 ∷ 52 ∷ 52 ∷ 48 ∷ 55 ∷ 51 ∷ 55 ∷ 48 ∷ 57 ∷ 53 ∷ 53 ∷ 49 ∷ 54 ∷ 49 ∷ 53 ∷ 32 ∷ 49 ∷ 56 ∷ 52 ∷ 52 ∷ 54 ∷ 55 ∷ 52 ∷ 52 ∷ 48 ∷ 55 ∷ 51 ∷ 55 ∷ 48 ∷ 57 ∷ 53 ∷ 53 ∷ 49 ∷ 54 ∷ 49 ∷ 53 ∷ 115 ∷ 10 ∷ []) 85
   -- in a buffer that is one byte shorter even a short line has no room
   pub kept : LinePut (endBytes 0) (replicate 84 7) 0 (replicate 84 7) 0
   pub keptBehind : LinePut (endBytes 0) (replicate 86 7) 2 (replicate 86 7) 2

@@ -13,17 +13,17 @@ use Rattle.rules.specs.declared.Answer.{Answer}
 use Rattle.rules.specs.declared.Answer.the-variants.{Went, Refused}
 use Rattle.rules.specs.declared.Refusal.{Refusal}
 use Rattle.rules.specs.declared.State.{State}
-use Rattle.rules.specs.declared.Portion.{Portion as PortionPlace}
+use Rattle.rules.specs.declared.Line.{Line as LinePlace}
 use Rattle.rules.specs.declared.Walk.{Walk}
 use Rattle.rules.specs.Calls.{told, advanceRows, Advanced}
-use Rattle.rules.specs.Limits.{lastTick, portionPlaces}
+use Rattle.rules.specs.Limits.{lastTick, linePlaces}
 use Rattle.rules.specs.Lines.{Line, lines}
 use Rattle.rules.specs.Model.{Model}
 use Rattle.rules.specs.Places.{model, packed}
 use Rattle.rules.specs.Refusals.{Row, _gives_, first, numberOf, refusalNumber}
 use Rattle.rules.specs.Sound.{sound}
 use Rattle.rules.specs.Steps.{advance}
-use Rattle.rules.specs.Walks.{ticksIn, portionPlace, noPortion, walkLines, walkState, walkLeft, Walked}
+use Rattle.rules.specs.Walks.{ticksIn, linePlace, noLine, walkLines, walkState, walkLeft, Walked}
 use Rattle.promises.proofs.Calling.{MayAdvance, may-advance}
 use Rattle.promises.proofs.Facts.{sane-model, packed-back, packed-sound}
 use Rattle.promises.proofs.Packing.{model-packed}
@@ -69,16 +69,16 @@ module _ (s : State) (k : ℕ) where
       pub advance-refused : Advanced s k (record { answer = a; state = s })
       advance-refused = record { answer = e; state = told-nothing _ s s (advanceRows s k) r number }
 
-      pub walk-refused : {qs : List PortionPlace} → qs ≡ replicate portionPlaces noPortion → Walked s k (record { answer = a; state = s; left = 0; count = 0; portions = qs })
+      pub walk-refused : {qs : List LinePlace} → qs ≡ replicate linePlaces noLine → Walked s k (record { answer = a; state = s; left = 0; count = 0; lines = qs })
       unfolding walkLines walkState walkLeft
       walk-refused g =
-          let none : [] ≡ walkLines k s = told-nothing (lines portionPlaces k) [] s (advanceRows s k) r number in
+          let none : [] ≡ walkLines k s = told-nothing (lines linePlaces k) [] s (advanceRows s k) r number in
           record {
             answer = e;
             state = told-nothing _ s s (advanceRows s k) r number;
             left = told-nothing _ 0 s (advanceRows s k) r number;
             count = ap length none;
-            portions = g ∙ ap (λ (l : List Line). padded portionPlaces noPortion (map portionPlace l)) none;
+            lines = g ∙ ap (λ (l : List Line). padded linePlaces noLine (map linePlace l)) none;
           }
 
 -- ---- between two walks
@@ -116,21 +116,21 @@ module _ (s : State) (k : ℕ) (h : sound s ≡ true) (time : s .now + k ≤ las
 
     module _ {w : Walk} (r : Walked state left w) where
       abbrev n : ℕ
-      n = ticksIn portionPlaces left made
+      n = ticksIn linePlaces left made
 
       left-after : w .left ≡ left - n
-      left-after = r .left ∙ walk-left state left allowed ∙ ap (λ (m : Model). left - ticksIn portionPlaces left m) here
+      left-after = r .left ∙ walk-left state left allowed ∙ ap (λ (m : Model). left - ticksIn linePlaces left m) here
 
       -- each walk makes some ticks
       pub going-less : 0 < left → w .left < left
-      going-less l = omega (arith, left-after, ticks-in-some portionPlaces left state allowed here l (omega arith), ticks-in-le portionPlaces left made)
+      going-less l = omega (arith, left-after, ticks-in-some linePlaces left state allowed here l (omega arith), ticks-in-le linePlaces left made)
 
       pub going-more : Going s k (w .state) (w .left)
       going-more =
-          let all : k - w .left ≡ k - left + n = omega (arith, left-after, ticks-in-le portionPlaces left made, g .few) in
+          let all : k - w .left ≡ k - left + n = omega (arith, left-after, ticks-in-le linePlaces left made, g .few) in
           record {
             few = omega (arith, left-after, g .few);
-            so = r .state ∙ walk-state state left allowed ∙ ap (λ (m : Model). packed (advance (ticksIn portionPlaces left m) m)) here ∙ ap packed (sym (advance-add (k - left) n (model s)) ∙ ap (λ (j : ℕ). advance j (model s)) (sym all));
+            so = r .state ∙ walk-state state left allowed ∙ ap (λ (m : Model). packed (advance (ticksIn linePlaces left m) m)) here ∙ ap packed (sym (advance-add (k - left) n (model s)) ∙ ap (λ (j : ℕ). advance j (model s)) (sym all));
           }
 
     pub going-end : left ≤ 0 → state ≡ packed (advance k (model s))

@@ -8,8 +8,8 @@ use lib.Dec.{ltb}
 use lib.ListN.{getD, length, length-map}
 use Rattle.rules.specs.declared.Answer.the-variants.{Went, Refused}
 use Rattle.rules.specs.declared.Guest.{Guest as GuestPlace}
-use Rattle.rules.specs.declared.Next.{Next}
-use Rattle.rules.specs.declared.Next.the-variants.{Nothing}
+use Rattle.rules.specs.declared.Portion.{Portion as DeclaredPortion}
+use Rattle.rules.specs.declared.Portion.the-variants.{Nothing}
 use Rattle.rules.specs.declared.Refusal.the-variants.{NotSound}
 use Rattle.rules.specs.declared.State.{State}
 use Rattle.rules.specs.Calls.{told, askRows, portionOf, AskedFor}
@@ -29,7 +29,7 @@ module _ (s : State) where
   ask-refused h = let e = gives-1 s [] h in record { answer = e; next = told-nothing ask nothingToDo s (askRows s) NotSound e }
 
   module _ (h : sound s ≡ true) where
-    pub ask-told : {x : Next} → portionOf x ≡ ask (model s) → AskedFor s (record { answer = Went; next = x })
+    pub ask-told : {x : DeclaredPortion} → portionOf x ≡ ask (model s) → AskedFor s (record { answer = Went; next = x })
     ask-told e = let z = past-1 s [] h refl in record { answer = z; next = e ∙ ap (λ (n : ℕ). told n ask nothingToDo s) z }
 
     -- the code's choice and its first spare are the rules'

@@ -17,11 +17,11 @@ use Rattle.laws.proofs.Places.{length-padded, take-padded, set-padded}
 use Rattle.rules.specs.declared.Entry.{Entry}
 use Rattle.rules.specs.declared.Guest.{Guest as GuestPlace}
 use Rattle.rules.specs.declared.Spare.{Spare as SparePlace}
-use Rattle.rules.specs.declared.Next.{Next}
-use Rattle.rules.specs.declared.Portion.{Portion as PortionPlace}
+use Rattle.rules.specs.declared.Portion.{Portion as DeclaredPortion}
+use Rattle.rules.specs.declared.Line.{Line as LinePlace}
 use Rattle.rules.specs.declared.State.{State}
 use Rattle.rules.specs.declared.Walk.{Walk}
-use Rattle.rules.specs.Limits.{guestPlaces, sparePlaces, portionPlaces, lastTick, longestFrame, deadlineBound}
+use Rattle.rules.specs.Limits.{guestPlaces, sparePlaces, linePlaces, lastTick, longestFrame, deadlineBound}
 use Rattle.rules.specs.Lines.{Line, line, ticksOn, lineFor, lines}
 use Rattle.rules.specs.Calls.{portionOf}
 use Rattle.rules.specs.Model.{Guest, guest, Spare, spare, Model, bitOf, maskOf, leftOf, deadlineOf, talliesOf, capacityOf, noGuest, guestAt, spareAt}
@@ -30,7 +30,7 @@ use Rattle.rules.specs.Sound.{sound}
 use Rattle.rules.specs.Steps.{but, renew, renewed, Pick, nobody, picked, ready, earliest, useOf, spanOf, portionFor, ran, advance, ask}
 use Rattle.rules.specs.Steps as Steps
 use Rattle.rules.specs.Table.{noEntry}
-use Rattle.rules.specs.Walks.{ticksIn, portionPlace, noPortion, Walked}
+use Rattle.rules.specs.Walks.{ticksIn, linePlace, noLine, Walked}
 use Rattle.promises.specs.Promises.{Uses}
 use Rattle.promises.specs.Spans.{Within}
 use Rattle.promises.proofs.Calling.{MayAdvance, advance-allowed}
@@ -266,7 +266,7 @@ abbrev pub reached : State → ℕ → ℕ → Model
 reached s k count = advance (ticksIn count k (model s)) (model s)
 
 -- the variables show a model: the one reached, or before the first portion that one renewed; who ran last may be still to renew
-pub record Walking (s : State) (k from : ℕ) (ds : List ℕ) (ps : List GuestPlace) (ss : List SparePlace) (qs : List PortionPlace) (h : Clock) (count : ℕ) (more : Bool) : Type 0 where
+pub record Walking (s : State) (k from : ℕ) (ds : List ℕ) (ps : List GuestPlace) (ss : List SparePlace) (qs : List LinePlace) (h : Clock) (count : ℕ) (more : Bool) : Type 0 where
   pub x : Model
   pub shows : Shows s x ps ss h
   pub early : All (λ g. deadlineOf g ≤ 2 ^ 62) (x .guests)
@@ -278,13 +278,13 @@ pub record Walking (s : State) (k from : ℕ) (ds : List ℕ) (ps : List GuestPl
   pub left : h .left ≡ k - ticksIn count k (model s)
   pub last : h .last < s .table .count
   pub long : length ss ≡ sparePlaces
-  pub few : count ≤ portionPlaces
-  pub noted : qs ≡ padded portionPlaces noPortion (map portionPlace (lines count k (model s)))
+  pub few : count ≤ linePlaces
+  pub noted : qs ≡ padded linePlaces noLine (map linePlace (lines count k (model s)))
   pub counted : length (lines count k (model s)) ≡ count
-  pub goes : more ≡ ltb 0 (h .left) && ltb count portionPlaces
+  pub goes : more ≡ ltb 0 (h .left) && ltb count linePlaces
 
 -- what one portion gives the code: r is the guest that ran last, renewed, and `due` its deadline; `next` is what comes next, and g what is charged
-pub record Turned (s : State) (k from : ℕ) (ds : List ℕ) (ps : List GuestPlace) (ss : List SparePlace) (qs : List PortionPlace) (c : Clock) (count : ℕ) (r : GuestPlace) (due at : ℕ) (next : Next) (g : Charge) : Type 0 where
+pub record Turned (s : State) (k from : ℕ) (ds : List ℕ) (ps : List GuestPlace) (ss : List SparePlace) (qs : List LinePlace) (c : Clock) (count : ℕ) (r : GuestPlace) (due at : ℕ) (next : DeclaredPortion) (g : Charge) : Type 0 where
   -- the guest that is charged, and the first spare
   pub inside : g .guest < s .table .count
   pub ran :
@@ -294,9 +294,9 @@ pub record Turned (s : State) (k from : ℕ) (ds : List ℕ) (ps : List GuestPla
   pub now : c .now + g .ticks < 2 ^ 64
   pub later : (g .ticks ≤ c .left) × (c .now + g .ticks < 2 ^ 64) × (c .burned + g .burned < 2 ^ 64) × (c .idle + g .idle < 2 ^ 64) × (c .head + g .removed < 2 ^ 64)
   pub more :
-      {a : GuestPlace} {y : SparePlace} {b : PortionPlace} {d : Clock} {more : Bool} → a ≡ ranPlace g (getD (set ps (c .last) r) (g .guest) noGuestPlace)
-      → y ≡ spentPlace g (getD ss at noSparePlace) → b ≡ portionPlace (line (c .now) (c .now + g .ticks) (useOf (portionOf next))) → d ≡ laterBy g c
-      → more ≡ ltb 0 (d .left) && ltb (count + 1) portionPlaces
+      {a : GuestPlace} {y : SparePlace} {b : LinePlace} {d : Clock} {more : Bool} → a ≡ ranPlace g (getD (set ps (c .last) r) (g .guest) noGuestPlace)
+      → y ≡ spentPlace g (getD ss at noSparePlace) → b ≡ linePlace (line (c .now) (c .now + g .ticks) (useOf (portionOf next))) → d ≡ laterBy g c
+      → more ≡ ltb 0 (d .left) && ltb (count + 1) linePlaces
       → Walking s k from (set ds (c .last) due) (set (set ps (c .last) r) (g .guest) a) (set ss at y) (set qs count b) d (count + 1) more
 
 module _ (s : State) (k from : ℕ) (h : sound s ≡ true) (time : s .now + k ≤ lastTick) where
@@ -328,8 +328,8 @@ module _ (s : State) (k from : ℕ) (h : sound s ≡ true) (time : s .now + k �
   begun-ready zero f = absurd (omega arith)
   begun-ready (suc n) f = ap (λ (gs : List Guest). but (renewed (model s)) gs (renewed (model s) .spares)) (settled-one 0 (settled (model s) (sane-model s h)))
 
-  pub walking-start : {ps : List GuestPlace} {qs : List PortionPlace} {c : Clock} {more : Bool} → c ≡ startedAt s k → ps ≡ placed (begunFrom k (model s) .guests) → (lowest : ℕ) → lowest ≡ trailingZeros 32 (maskOf (inUse (s .table .count) ps)) → (lowest < s .table .count → from ≡ lowest) × (s .table .count ≤ lowest → from ≡ 0) → qs ≡ replicate portionPlaces noPortion
-      → more ≡ ltb 0 k && ltb 0 portionPlaces → Walking s k from (map dueAt ps) ps (s .spares) qs c 0 more
+  pub walking-start : {ps : List GuestPlace} {qs : List LinePlace} {c : Clock} {more : Bool} → c ≡ startedAt s k → ps ≡ placed (begunFrom k (model s) .guests) → (lowest : ℕ) → lowest ≡ trailingZeros 32 (maskOf (inUse (s .table .count) ps)) → (lowest < s .table .count → from ≡ lowest) × (s .table .count ≤ lowest → from ≡ 0) → qs ≡ replicate linePlaces noLine
+      → more ≡ ltb 0 k && ltb 0 linePlaces → Walking s k from (map dueAt ps) ps (s .spares) qs c 0 more
   unfolding ticksIn lines advance
   walking-start {ps} {qs} {c} {more} ec e lowest el es f g =
       subst (λ (c : Clock). Walking s k from (map dueAt ps) ps (s .spares) qs c 0 more) (sym ec)
@@ -353,7 +353,7 @@ module _ (s : State) (k from : ℕ) (h : sound s ≡ true) (time : s .now + k �
 
   -- ---- one portion
 
-  module _ {ds : List ℕ} {ps : List GuestPlace} {ss : List SparePlace} {qs : List PortionPlace} {c : Clock} {count : ℕ} (w : Walking s k from ds ps ss qs c count true) where
+  module _ {ds : List ℕ} {ps : List GuestPlace} {ss : List SparePlace} {qs : List LinePlace} {c : Clock} {count : ℕ} (w : Walking s k from ds ps ss qs c count true) where
     abbrev M : Model
     M = reached s k count
 
@@ -361,10 +361,10 @@ module _ (s : State) (k from : ℕ) (h : sound s ≡ true) (time : s .now + k �
     R = renewed M
 
     some : 0 < c .left
-    some = ltb-true 0 (c .left) (and-both (ltb 0 (c .left)) (ltb count portionPlaces) (sym (w .goes)) .0)
+    some = ltb-true 0 (c .left) (and-both (ltb 0 (c .left)) (ltb count linePlaces) (sym (w .goes)) .0)
 
-    pub room : count < portionPlaces
-    room = ltb-true count portionPlaces (and-both (ltb 0 (c .left)) (ltb count portionPlaces) (sym (w .goes)) .1)
+    pub room : count < linePlaces
+    room = ltb-true count linePlaces (and-both (ltb 0 (c .left)) (ltb count linePlaces) (sym (w .goes)) .1)
 
     guests-ready : changed (c .last) renew (w .x .guests) ≡ R .guests
     guests-ready = ap (λ (m : Model). m .guests) (w .ready some)
@@ -429,7 +429,7 @@ module _ (s : State) (k from : ℕ) (h : sound s ≡ true) (time : s .now + k �
             ∙ w .first (inUse n gs₁) (mask-in n (R .guests) turn-renewed count-shown ∙ same-active) (in-use-few 32 n gs₁ guestPlaces long-here (omega arith))
             ∙ earliest-in n (R .guests) turn-renewed count-shown
 
-        module _ (next : Next) (en : portionOf next ≡ portionFor q (firstOf (ltb (c .head) (s .count)) Y)) where
+        module _ (next : DeclaredPortion) (en : portionOf next ≡ portionFor q (firstOf (ltb (c .head) (s .count)) Y)) where
           -- it is what the rules ask
           turn-next : portionOf next ≡ ask M
           unfolding ask Steps.next
@@ -533,21 +533,21 @@ module _ (s : State) (k from : ℕ) (h : sound s ≡ true) (time : s .now + k �
             next-lines : lines (count + 1) k (model s) ≡ lines count k (model s) ++ (lineFor M (c .left) ∷ [])
             next-lines = lines-more count k (model s) ∙ ap (λ (ls : List Line). lines count k (model s) ++ ls) (ap (λ (n : ℕ). lines 1 n M) (sym (w .left)) ∙ lines-one (c .left) M some)
 
-            next-noted : {b : PortionPlace} → b ≡ portionPlace (line (c .now) (c .now + g .ticks) (useOf (portionOf next))) → set qs count b ≡ padded portionPlaces noPortion (map portionPlace (lines (count + 1) k (model s)))
+            next-noted : {b : LinePlace} → b ≡ linePlace (line (c .now) (c .now + g .ticks) (useOf (portionOf next))) → set qs count b ≡ padded linePlaces noLine (map linePlace (lines (count + 1) k (model s)))
             next-noted e =
                 let ls = lines count k (model s) in
                 let here : lineFor M (c .left) ≡ line (c .now) (c .now + g .ticks) (useOf (portionOf next)) = rw (turn-next, now-here, fits .ticks) in
-                ap₂ (λ (l : List PortionPlace) (v : PortionPlace). set l count v) (w .noted) (e ∙ ap portionPlace (sym here))
-                ∙ set-padded portionPlaces noPortion count (map portionPlace ls) (portionPlace (lineFor M (c .left))) (length-map ls portionPlace ∙ w .counted) room
-                ∙ ap (padded portionPlaces noPortion) (sym (map-append portionPlace ls (lineFor M (c .left) ∷ [])) ∙ ap (λ (l : List Line). map portionPlace l) (sym next-lines))
+                ap₂ (λ (l : List LinePlace) (v : LinePlace). set l count v) (w .noted) (e ∙ ap linePlace (sym here))
+                ∙ set-padded linePlaces noLine count (map linePlace ls) (linePlace (lineFor M (c .left))) (length-map ls linePlace ∙ w .counted) room
+                ∙ ap (padded linePlaces noLine) (sym (map-append linePlace ls (lineFor M (c .left) ∷ [])) ∙ ap (λ (l : List Line). map linePlace l) (sym next-lines))
 
             next-ready : but (made g R) (changed (g .guest) renew (made g R .guests)) (made g R .spares) ≡ renewed (reached s k (count + 1))
             unfolding renewed
             next-ready =
                 ap (λ (gs : List Guest). but (made g R) gs (made g R .spares)) (settled-but (g .guest) (ran (g .own) (g .lent)) (settled M (reached-sane count))) ∙ ap renewed next-reached
 
-            turn-more : {a : GuestPlace} {y : SparePlace} {b : PortionPlace} {d : Clock} {more : Bool} → a ≡ ranPlace g B → y ≡ spentPlace g Y
-                → b ≡ portionPlace (line (c .now) (c .now + g .ticks) (useOf (portionOf next))) → d ≡ laterBy g c → more ≡ ltb 0 (d .left) && ltb (count + 1) portionPlaces
+            turn-more : {a : GuestPlace} {y : SparePlace} {b : LinePlace} {d : Clock} {more : Bool} → a ≡ ranPlace g B → y ≡ spentPlace g Y
+                → b ≡ linePlace (line (c .now) (c .now + g .ticks) (useOf (portionOf next))) → d ≡ laterBy g c → more ≡ ltb 0 (d .left) && ltb (count + 1) linePlaces
                 → Walking s k from (set ds (c .last) due) (set (set ps (c .last) r) (g .guest) a) (set ss at y) (set qs count b) d (count + 1) more
             turn-more {a} {y} {b} {d} {more} ra ry rb rd rm =
                 subst (λ (d : Clock). Walking s k from (set ds (c .last) due) (set (set ps (c .last) r) (g .guest) a) (set ss at y) (set qs count b) d (count + 1) more) (sym rd)
@@ -566,20 +566,20 @@ module _ (s : State) (k from : ℕ) (h : sound s ≡ true) (time : s .now + k �
                   few = omega (arith, room);
                   noted = next-noted rb;
                   counted = ap length next-lines ∙ length-append (lines count k (model s)) (lineFor M (c .left) ∷ []) ∙ omega (arith, w .counted);
-                  goes = rm ∙ ap (λ (d : Clock). ltb 0 (d .left) && ltb (count + 1) portionPlaces) rd;
+                  goes = rm ∙ ap (λ (d : Clock). ltb 0 (d .left) && ltb (count + 1) linePlaces) rd;
                 })
 
             pub turn : Turned s k from ds ps ss qs c count r due at next g
             turn = record { inside = turn-inside; ran = turn-ran; spent = turn-spent; now = turn-now; later = turn-later; more = turn-more }
 
   -- what the loop's bounds need of it
-  pub bounds : {ds : List ℕ} {ps : List GuestPlace} {ss : List SparePlace} {qs : List PortionPlace} {c : Clock} {count : ℕ} {more : Bool} → Walking s k from ds ps ss qs c count more
-      → (s .table .count ≤ guestPlaces) × (c .last < s .table .count) × (count ≤ portionPlaces) × Walking s k from ds ps ss qs c count more
+  pub bounds : {ds : List ℕ} {ps : List GuestPlace} {ss : List SparePlace} {qs : List LinePlace} {c : Clock} {count : ℕ} {more : Bool} → Walking s k from ds ps ss qs c count more
+      → (s .table .count ≤ guestPlaces) × (c .last < s .table .count) × (count ≤ linePlaces) × Walking s k from ds ps ss qs c count more
   bounds w = (table-good s h .count-high, w .last, w .few, w)
 
   -- ---- behind the last portion
 
-  module _ {ds : List ℕ} {ps : List GuestPlace} {ss : List SparePlace} {qs : List PortionPlace} {c : Clock} {count : ℕ} (w : Walking s k from ds ps ss qs c count false) where
+  module _ {ds : List ℕ} {ps : List GuestPlace} {ss : List SparePlace} {qs : List LinePlace} {c : Clock} {count : ℕ} (w : Walking s k from ds ps ss qs c count false) where
     may : MayAdvance s k
     unfolding model
     may = record { whole = h; time = time }
@@ -588,23 +588,23 @@ module _ (s : State) (k from : ℕ) (h : sound s ≡ true) (time : s .now + k �
     last-head = (w .shows .head, points s h .few)
 
     -- nothing is left, or no place
-    over : 0 < c .left → portionPlaces ≤ count
-    over l = ltb-false count portionPlaces (and-second (lt-ltb 0 (c .left) l) (sym (w .goes)))
+    over : 0 < c .left → linePlaces ≤ count
+    over l = ltb-false count linePlaces (and-second (lt-ltb 0 (c .left) l) (sym (w .goes)))
 
-    rest : portionPlaces ≡ count + (portionPlaces - count)
+    rest : linePlaces ≡ count + (linePlaces - count)
     rest = omega (arith, w .few)
 
-    last-ticks : ticksIn portionPlaces k (model s) ≡ ticksIn count k (model s)
+    last-ticks : ticksIn linePlaces k (model s) ≡ ticksIn count k (model s)
     last-ticks =
-        by-ltb (λ _. ticksIn portionPlaces k (model s) ≡ ticksIn count k (model s)) 0 (c .left)
-        (λ l. let full : portionPlaces ≡ count = omega (arith, over l, w .few) in ap (λ (n : ℕ). ticksIn n k (model s)) full)
-        (λ l. let all : ticksIn count k (model s) ≡ k = omega (arith, w .left, ticks-in-le count k (model s)) in ap (λ (n : ℕ). ticksIn n k (model s)) rest ∙ ticks-enough count (portionPlaces - count) k (model s) all)
+        by-ltb (λ _. ticksIn linePlaces k (model s) ≡ ticksIn count k (model s)) 0 (c .left)
+        (λ l. let full : linePlaces ≡ count = omega (arith, over l, w .few) in ap (λ (n : ℕ). ticksIn n k (model s)) full)
+        (λ l. let all : ticksIn count k (model s) ≡ k = omega (arith, w .left, ticks-in-le count k (model s)) in ap (λ (n : ℕ). ticksIn n k (model s)) rest ∙ ticks-enough count (linePlaces - count) k (model s) all)
 
-    last-lines : lines portionPlaces k (model s) ≡ lines count k (model s)
+    last-lines : lines linePlaces k (model s) ≡ lines count k (model s)
     last-lines =
-        by-ltb (λ _. lines portionPlaces k (model s) ≡ lines count k (model s)) 0 (c .left)
-        (λ l. let full : portionPlaces ≡ count = omega (arith, over l, w .few) in ap (λ (n : ℕ). lines n k (model s)) full)
-        (λ l. let all : ticksIn count k (model s) ≡ k = omega (arith, w .left, ticks-in-le count k (model s)) in ap (λ (n : ℕ). lines n k (model s)) rest ∙ lines-enough count (portionPlaces - count) k (model s) all)
+        by-ltb (λ _. lines linePlaces k (model s) ≡ lines count k (model s)) 0 (c .left)
+        (λ l. let full : linePlaces ≡ count = omega (arith, over l, w .few) in ap (λ (n : ℕ). lines n k (model s)) full)
+        (λ l. let all : ticksIn count k (model s) ≡ k = omega (arith, w .left, ticks-in-le count k (model s)) in ap (λ (n : ℕ). lines n k (model s)) rest ∙ lines-enough count (linePlaces - count) k (model s) all)
 
     -- the state in the walk's variables
     last-state : stateOf s ps ss c ≡ packed (w .x)
@@ -619,12 +619,12 @@ module _ (s : State) (k from : ℕ) (h : sound s ≡ true) (time : s .now + k �
 
     pub walking-end : {r : Walk} → r ≡ walkOf s ps ss qs c count → Walked s k r
     walking-end e =
-        let there : w .x ≡ advance (ticksIn portionPlaces k (model s)) (model s) = w .exact (λ l. omega (arith, over l)) ∙ ap (λ (n : ℕ). advance n (model s)) (sym last-ticks) in
+        let there : w .x ≡ advance (ticksIn linePlaces k (model s)) (model s) = w .exact (λ l. omega (arith, over l)) ∙ ap (λ (n : ℕ). advance n (model s)) (sym last-ticks) in
         subst (Walked s k) (sym e)
         (record {
           answer = sym (advance-allowed s k may);
           state = last-state ∙ ap packed there ∙ sym (walk-state s k may);
           left = w .left ∙ ap (λ (n : ℕ). k - n) (sym last-ticks) ∙ sym (walk-left s k may);
           count = sym (w .counted) ∙ ap length (sym last-lines ∙ sym (walk-lines s k may));
-          portions = w .noted ∙ ap (λ (l : List Line). padded portionPlaces noPortion (map portionPlace l)) (sym last-lines ∙ sym (walk-lines s k may));
+          lines = w .noted ∙ ap (λ (l : List Line). padded linePlaces noLine (map linePlace l)) (sym last-lines ∙ sym (walk-lines s k may));
         })

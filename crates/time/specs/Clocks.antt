@@ -6,7 +6,7 @@ use Rattle.laws.specs.Lists.{padded}
 use Rattle.rules.specs.declared.Guest.{Guest as GuestPlace}
 use Rattle.rules.specs.declared.Spare.{Spare as SparePlace}
 use Rattle.rules.specs.declared.Answer.the-variants.{Went}
-use Rattle.rules.specs.declared.Portion.{Portion as PortionPlace}
+use Rattle.rules.specs.declared.Line.{Line as LinePlace}
 use Rattle.rules.specs.declared.State.{State}
 use Rattle.rules.specs.declared.Walk.{Walk}
 use Rattle.rules.specs.Limits.{guestPlaces, sparePlaces}
@@ -59,6 +59,6 @@ stateOf s guests spares h =
     }
 
 -- what the walk gives back
-abbrev pub walkOf : State → List GuestPlace → List SparePlace → List PortionPlace → Clock → ℕ → Walk
-walkOf s guests spares portions h count =
-    record { answer = Went; state = stateOf s guests spares h; left = h .left; count = count; portions = portions }
+abbrev pub walkOf : State → List GuestPlace → List SparePlace → List LinePlace → Clock → ℕ → Walk
+walkOf s guests spares lines h count =
+    record { answer = Went; state = stateOf s guests spares h; left = h .left; count = count; lines = lines }

@@ -11,13 +11,13 @@ ghost use Rattle.rules.specs.Steps.{advance};
 ghost use Rattle.rules.specs.Walks.{Walked};
 use crate::dues::picked;
 use crate::renewal::guests_renewed;
-use crate::walking::no_portions;
+use crate::walking::no_lines;
 use crate::walking::walked;
-use portions::next_of;
+use portions::portion_for;
 use rules::Answer;
 use rules::Asked;
 use rules::LAST_TICK;
-use rules::Next;
+use rules::Portion;
 use rules::Outcome;
 use rules::Refusal;
 use rules::State;
@@ -36,14 +36,14 @@ pub fn ask(s: State) -> Asked
     if !sound {
         return Asked {
             answer: Answer::Refused(Refusal::NotSound),
-            next: Next::Nothing,
+            next: Portion::Nothing,
         };
     }
     let t = s.table;
     let guests = guests_renewed(s);
     let pick = picked(guests, t.count);
     let first = s.spares[0];
-    let next = next_of(pick, first, 0 < s.count);
+    let next = portion_for(pick, first, 0 < s.count);
     Asked {
         answer: Answer::Went,
         next,
@@ -96,13 +96,13 @@ pub fn walk(s: State, k: u64) -> Walk
 {
     let answer = checked(s, k);
     let Answer::Went = answer else {
-        let portions = no_portions();
+        let lines = no_lines();
         return Walk {
             answer,
             state: s,
             left: 0,
             count: 0,
-            portions,
+            lines,
         };
     };
     walked(s, k)

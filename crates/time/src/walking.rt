@@ -7,12 +7,12 @@ ghost use lib.ListN.{replicate};
 ghost use lib.Seq.{slice};
 ghost use Rattle.laws.specs.Lists.{padded};
 ghost use Rattle.rules.specs.Calls.{portionOf};
-ghost use Rattle.rules.specs.Limits.{sparePlaces, portionPlaces, lastTick};
+ghost use Rattle.rules.specs.Limits.{sparePlaces, linePlaces, lastTick};
 ghost use Rattle.rules.specs.Lines.{line};
 ghost use Rattle.rules.specs.Places.{model, noSparePlace};
 ghost use Rattle.rules.specs.Sound.{sound};
 ghost use Rattle.rules.specs.Steps.{useOf};
-ghost use Rattle.rules.specs.Walks.{usedOf, portionPlace, noPortion, Walked};
+ghost use Rattle.rules.specs.Walks.{declaredUse, linePlace, noLine, Walked};
 ghost use Rattle.time.specs.Clocks.{placed, begunFrom, startedAt, laterBy, walkOf};
 use crate::charges::ran;
 use crate::charges::spent;
@@ -24,18 +24,17 @@ use crate::renewal::guests_renewed;
 use crate::renewal::renewed;
 use portions::Charge;
 use portions::charge_of;
-use portions::next_of;
+use portions::portion_for;
 use rules::Answer;
 use rules::GUEST_PLACES;
 use rules::Guest;
-use rules::Next;
-use rules::PORTION_PLACES;
 use rules::Portion;
+use rules::LINE_PLACES;
+use rules::Line;
 use rules::SPARE_PLACES;
-use rules::Source;
 use rules::Spare;
 use rules::State;
-use rules::Used;
+use rules::Use;
 use rules::Walk;
 
 // Where a walk stands: the tick, the ticks left, the processor's tallies, how many spares are spent, and who ran last.
@@ -83,24 +82,21 @@ fn later(h: Clock, c: Charge) -> Clock
     }
 }
 
-fn used_by(next: Next) -> Used
-    ensures { λ r. ⌜ r ≡ usedOf (useOf (portionOf next)) ⌝ }
+fn used_by(portion: Portion) -> Use
+    ensures { λ r. ⌜ r ≡ declaredUse (useOf (portionOf portion)) ⌝ }
 {
-    match next {
-        Next::Run(i, source, _, _) => match source {
-            Source::Own => Used::Own(i),
-            Source::SpareOf(owner) => Used::SpareOf(i, owner),
-        },
-        Next::Burn(owner, _, _) => Used::Burned(owner),
-        Next::Nothing => Used::Idle,
+    match portion {
+        Portion::Run(i, source, _, _) => Use::Run(i, source),
+        Portion::Burn(owner, _, _) => Use::Burn(owner),
+        Portion::Nothing => Use::Nothing,
     }
 }
 
 fn goes_on(left: u64, count: usize) -> bool
-    ensures { λ r. ⌜ r ≡ ltb 0 left && ltb count portionPlaces ⌝ }
+    ensures { λ r. ⌜ r ≡ ltb 0 left && ltb count linePlaces ⌝ }
 {
     let more = 0 < left;
-    let room = count < PORTION_PLACES;
+    let room = count < LINE_PLACES;
     more & room
 }
 
@@ -124,23 +120,23 @@ fn spares_left(spares: [Spare; SPARE_PLACES], head: usize, count: usize) -> [Spa
     left
 }
 
-pub(crate) fn no_portions() -> [Portion; PORTION_PLACES]
-    ensures { λ r. ⌜ r ≡ replicate portionPlaces noPortion ⌝ }
+pub(crate) fn no_lines() -> [Line; LINE_PLACES]
+    ensures { λ r. ⌜ r ≡ replicate linePlaces noLine ⌝ }
 {
-    let none = Portion {
+    let none = Line {
         first: 0,
         end: 0,
-        used: Used::Idle,
+        used: Use::Nothing,
     };
-    [none; PORTION_PLACES]
+    [none; LINE_PLACES]
 }
 
-fn portion_of(next: Next, first: u64, ticks: u64) -> Portion
+fn line_of(portion: Portion, first: u64, ticks: u64) -> Line
     requires { ⌜ first + ticks < 2 ^ 64 ⌝ }
-    ensures { λ r. ⌜ r ≡ portionPlace (line first (first + ticks) (useOf (portionOf next))) ⌝ }
+    ensures { λ r. ⌜ r ≡ linePlace (line first (first + ticks) (useOf (portionOf portion))) ⌝ }
 {
-    let used = used_by(next);
-    Portion {
+    let used = used_by(portion);
+    Line {
         first,
         end: first + ticks,
         used,
@@ -165,12 +161,12 @@ fn walk_of(
     s: State,
     guests: [Guest; GUEST_PLACES],
     spares: [Spare; SPARE_PLACES],
-    portions: [Portion; PORTION_PLACES],
+    lines: [Line; LINE_PLACES],
     h: Clock,
     count: usize,
 ) -> Walk
     requires { ⌜ (h .head ≤ s .count) × (s .count ≤ sparePlaces) ⌝ }
-    ensures { λ r. ⌜ r ≡ walkOf s guests spares portions h count ⌝ }
+    ensures { λ r. ⌜ r ≡ walkOf s guests spares lines h count ⌝ }
 {
     let rest = spares_left(spares, h.head, s.count);
     let state = State {
@@ -187,7 +183,7 @@ fn walk_of(
         state,
         left: h.left,
         count,
-        portions,
+        lines,
     }
 }
 
@@ -203,7 +199,7 @@ pub(crate) fn walked(s: State, k: u64) -> Walk
     let from = start_of(order::lowest(guests, t.count), t.count);
     let mut dues = dues_of(guests);
     let mut spares = s.spares;
-    let mut portions = no_portions();
+    let mut lines = no_lines();
     let mut h = started(s, k);
     let mut count: usize = 0;
     let mut more = goes_on(k, count);
@@ -219,16 +215,16 @@ pub(crate) fn walked(s: State, k: u64) -> Walk
         let pick = order::ready(soon, f);
         let at = spare_place(h.head);
         let x = spares[at];
-        let next = next_of(pick, x, h.head < s.count);
-        let c = charge_of(next, h.left, last);
+        let portion = portion_for(pick, x, h.head < s.count);
+        let c = charge_of(portion, h.left, last);
         let i = c.guest;
         let b = guests[i];
         guests[i] = ran(b, c);
         spares[at] = spent(x, c);
-        portions[count] = portion_of(next, h.now, c.ticks);
+        lines[count] = line_of(portion, h.now, c.ticks);
         h = later(h, c);
         count = count + 1;
         more = goes_on(h.left, count);
     }
-    walk_of(s, guests, spares, portions, h, count)
+    walk_of(s, guests, spares, lines, h, count)
 }

@@ -42,7 +42,7 @@ returns-2 c =
     let e = first .before .before in
     let a = e .before .before .before .args in
     line-put (now (a .buffer)) (a .filled) (e .before .has-room .ensures) (e .if1 .left)
-    (portion-parts (now (a .buffer)) (a .filled) (a .p) (first .put-number .ensures) (end .put-spaced .ensures) (used .put-used .ensures))
+    (portion-parts (now (a .buffer)) (a .filled) (a .line) (first .put-number .ensures) (end .put-spaced .ensures) (used .put-used .ensures))
 
 same-length : tie.Need-same-length
 same-length c = line-long (returns-2 c)

@@ -36,15 +36,15 @@ picked-requires c κs =
 element-copy-out-first : tie.Need-element-copy-out-first
 element-copy-out-first c = search needs
 
-next-of-requires : tie.Need-next-of-requires
-next-of-requires c κs = search needs
+portion-for-requires : tie.Need-portion-for-requires
+portion-for-requires c κs = search needs
 
 returns-2 : tie.Need-returns-2
 returns-2 c =
     let g = c .before .before .before in
     let a = g .before .before .before .before in
     let e = g .before .before in
-    ask-told (a .args .t1) (holding e) (ask-next (a .args .t1) (holding e) (g .guests-renewed .ensures) (c .before .before .picked .ensures) (c .next-of .ensures))
+    ask-told (a .args .t1) (holding e) (ask-next (a .args .t1) (holding e) (g .guests-renewed .ensures) (c .before .before .picked .ensures) (c .portion-for .ensures))
 
 pub ask-spec : {M : Type 1} → statement M
 ask-spec =
@@ -55,5 +55,5 @@ ask-spec =
     guests-renewed-requires
     picked-requires
     element-copy-out-first
-    next-of-requires
+    portion-for-requires
     returns-2)

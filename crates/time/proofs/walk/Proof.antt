@@ -13,14 +13,14 @@ enum-told c = search needs
 enum-told-2 : tie.Need-enum-told-2
 enum-told-2 c = search needs
 
-no-portions-requires : tie.Need-no-portions-requires
-no-portions-requires c κs = search needs
+no-lines-requires : tie.Need-no-lines-requires
+no-lines-requires c κs = search needs
 
 returns : tie.Need-returns
 returns c =
     let e = c .before in
     let a = e .before .before in
-    walk-refused (a .before .args .s) (a .before .args .k) (a .checked .ensures) _ (e .enum-told2 .given .1) (c .no-portions .ensures)
+    walk-refused (a .before .args .s) (a .before .args .k) (a .checked .ensures) _ (e .enum-told2 .given .1) (c .no-lines .ensures)
 
 walked-requires : tie.Need-walked-requires
 walked-requires c κs =
@@ -37,7 +37,7 @@ walk-spec =
     checked-requires
     enum-told
     enum-told-2
-    no-portions-requires
+    no-lines-requires
     returns
     walked-requires
     returns-2)

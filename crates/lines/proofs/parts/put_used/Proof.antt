@@ -1,4 +1,4 @@
--- `lines::parts::put_used` meets its contract.
+-- `lines::parts::put_used` meets its contract: two parts, one behind the other, for each case.
 use native.Mathlib.Omega.{arith}
 use Rattle.text.specs.Lines.{usedBytes}
 use Rattle.lines.proofs.Putting.{part-on, part-within}
@@ -12,26 +12,17 @@ enum-known-used c = search needs
 put-spaced-requires : tie.Need-put-spaced-requires
 put-spaced-requires c κs = search needs
 
-put-closed-requires : tie.Need-put-closed-requires
-put-closed-requires c κs = search needs
+put-source-requires : tie.Need-put-source-requires
+put-source-requires c κs = search needs
 
 enum-known-used-2 : tie.Need-enum-known-used-2
 enum-known-used-2 c = search needs
 
-put-spaced-requires-2 : tie.Need-put-spaced-requires-2
-put-spaced-requires-2 c κs = search needs
-
-put-closed-requires-2 : tie.Need-put-closed-requires-2
-put-closed-requires-2 c κs = search needs
-
-enum-known-used-3 : tie.Need-enum-known-used-3
-enum-known-used-3 c = search needs
-
 put-dash-requires : tie.Need-put-dash-requires
 put-dash-requires c κs = search needs
 
-put-closed-requires-3 : tie.Need-put-closed-requires-3
-put-closed-requires-3 c κs = search needs
+put-closed-requires : tie.Need-put-closed-requires
+put-closed-requires c κs = search needs
 
 enum-told : tie.Need-enum-told
 enum-told c = search needs
@@ -50,7 +41,7 @@ unfolding usedBytes
 returns c =
     let second = c .before .before in
     let first = second .before .before .before .before in
-    rw (first .before .before .before .used .given .1) (part-on (first .put-spaced .ensures) (second .put-closed .ensures))
+    rw (first .before .before .before .used .given .1) (part-on (first .put-spaced .ensures) (second .put-source .ensures))
 
 same-length-2 : tie.Need-same-length-2
 same-length-2 c = search needs
@@ -60,7 +51,7 @@ unfolding usedBytes
 returns-2 c =
     let second = c .before .before in
     let first = second .before .before .before .before in
-    rw (first .before .before .before .used2 .given .1) (part-on (first .put-spaced2 .ensures) (second .put-closed2 .ensures))
+    rw (first .before .before .before .used2 .given .1) (part-within (omega arith) (part-on (first .put-dash .ensures) (second .put-closed .ensures)))
 
 same-length-3 : tie.Need-same-length-3
 same-length-3 c = search needs
@@ -68,16 +59,6 @@ same-length-3 c = search needs
 returns-3 : tie.Need-returns-3
 unfolding usedBytes
 returns-3 c =
-    let second = c .before .before in
-    let first = second .before .before .before .before in
-    rw (first .before .before .before .used3 .given .1) (part-within (omega arith) (part-on (first .put-dash .ensures) (second .put-closed3 .ensures)))
-
-same-length-4 : tie.Need-same-length-4
-same-length-4 c = search needs
-
-returns-4 : tie.Need-returns-4
-unfolding usedBytes
-returns-4 c =
     let second = c .before .before in
     let first = second .before .before .before .before in
     rw (first .before .before .enum-told .given .1) (part-within (omega arith) (part-on (first .put-dash2 .ensures) (second .put-dash3 .ensures)))
@@ -88,13 +69,10 @@ put-used-spec =
     (tie.spec
     enum-known-used
     put-spaced-requires
-    put-closed-requires
+    put-source-requires
     enum-known-used-2
-    put-spaced-requires-2
-    put-closed-requires-2
-    enum-known-used-3
     put-dash-requires
-    put-closed-requires-3
+    put-closed-requires
     enum-told
     put-dash-requires-2
     put-dash-requires-3
@@ -103,6 +81,4 @@ put-used-spec =
     same-length-2
     returns-2
     same-length-3
-    returns-3
-    same-length-4
-    returns-4)
+    returns-3)

@@ -1,8 +1,9 @@
--- `stepping::put::put_portions` meets its contract: at i the lines of the first i portions are put.
+-- `stepping::put::put_portions` meets its contract: at i the lines of the first i lines are put.
 use Prim.Native.Nat.{_≤_, _-_}
 use native.Mathlib.Omega.{arith}
 use denote.Ref.{now}
-use Rattle.rules.specs.declared.Used.the-variants.{Own}
+use Rattle.rules.specs.declared.Source.the-variants.{Own}
+use Rattle.rules.specs.declared.Use.the-variants.{Run}
 use Rattle.laws.proofs.Places.{length-mapped}
 use Rattle.stepping.proofs.Doing.{Shown, shown-start, shown-long, shown-more, shown-end}
 use borrow.Author.Needs.{needs}
@@ -10,19 +11,19 @@ use Rattle.stepping.proofs.put.put_portions.Statement.{statement}
 use Rattle.stepping.proofs.put.put_portions.Tie as tie
 
 abbrev Inv-loop : tie.InvT-loop
-Inv-loop count buffer₀ filled portions end₀ i₀ buffer end i = (i ≤ count) × Shown portions buffer₀ filled i buffer end
+Inv-loop count buffer₀ filled lines end₀ i₀ buffer end i = (i ≤ count) × Shown lines buffer₀ filled i buffer end
 
 abbrev μ-loop : tie.MeasureT-loop
-μ-loop count buffer₀ filled portions end₀ i₀ buffer end i = count - i
+μ-loop count buffer₀ filled lines end₀ i₀ buffer end i = count - i
 
 loop-holds : tie.Need-loop-holds Inv-loop μ-loop
 loop-holds c = let a = c .before .args in (search needs, shown-start (a .t1) (now (a .buffer)) (a .filled))
 
-mul-p : tie.Need-mul-p Inv-loop μ-loop
-mul-p c = search needs
+mul-line : tie.Need-mul-line Inv-loop μ-loop
+mul-line c = search needs
 
-array-copy-out-p : tie.Need-array-copy-out-p Inv-loop μ-loop
-array-copy-out-p c = search needs
+array-copy-out-line : tie.Need-array-copy-out-line Inv-loop μ-loop
+array-copy-out-line c = search needs
 
 put-portion-requires : tie.Need-put-portion-requires Inv-loop μ-loop
 put-portion-requires c κs = search needs
@@ -38,7 +39,7 @@ loop-again c =
     let put = c .before .before in
     let l = put .before .before .before .before in
     let shown = l .loop .inv .1 in
-    (search needs, shown-more shown (record { first = 0; end = 0; used = Own 0 }) (search (needs, length-mapped)) (omega (arith, shown .short, shown-long shown)) (put .put-portion .ensures))
+    (search needs, shown-more shown (record { first = 0; end = 0; used = Run 0 Own }) (search (needs, length-mapped)) (omega (arith, shown .short, shown-long shown)) (put .put-portion .ensures))
 
 same-length : tie.Need-same-length Inv-loop μ-loop
 same-length c = shown-long (c .before .loop .inv .1)
@@ -53,8 +54,8 @@ put-portions-spec =
     Inv-loop
     μ-loop
     loop-holds
-    mul-p
-    array-copy-out-p
+    mul-line
+    array-copy-out-line
     put-portion-requires
     add-i
     loop-less

@@ -4,18 +4,18 @@ use mathlib.Core.Bool.{Bool, true, false}
 use mathlib.Core.List.{List}
 use Prim.Native.Nat.{ℕ, _≤_, _<_, _-_}
 use native.Mathlib.Omega.{arith}
-use Rattle.rules.specs.Limits.{guestPlaces, sparePlaces, portionPlaces}
+use Rattle.rules.specs.Limits.{guestPlaces, sparePlaces, linePlaces}
 use Rattle.time.proofs.Turning.{Walking, walking-start, bounds, room, turn-fits, Turned, turn, last-head, walking-end}
 use borrow.Author.Needs.{needs}
 use Rattle.time.proofs.walking.walked.Statement.{statement}
 use Rattle.time.proofs.walking.walked.Tie as tie
 
 abbrev Inv-loop : tie.InvT-loop
-Inv-loop s k t entries guests₀ from dues₀ spares₀ portions₀ h₀ count₀ more₀ guests dues spares portions h count more =
-    (t .count ≤ guestPlaces) × (h .last < t .count) × (count ≤ portionPlaces) × Walking s k from dues guests spares portions h count more
+Inv-loop s k t entries guests₀ from dues₀ spares₀ lines₀ h₀ count₀ more₀ guests dues spares lines h count more =
+    (t .count ≤ guestPlaces) × (h .last < t .count) × (count ≤ linePlaces) × Walking s k from dues guests spares lines h count more
 
 abbrev μ-loop : tie.MeasureT-loop
-μ-loop s k t entries guests₀ from dues₀ spares₀ portions₀ h₀ count₀ more₀ guests dues spares portions h count more = portionPlaces - count
+μ-loop s k t entries guests₀ from dues₀ spares₀ lines₀ h₀ count₀ more₀ guests dues spares lines h count more = linePlaces - count
 
 -- in the loop there is more to walk
 module _ (c : tie.In-loop Inv-loop μ-loop) where
@@ -25,8 +25,8 @@ module _ (c : tie.In-loop Inv-loop μ-loop) where
   abbrev from : ℕ
   from = c .before .before .before .before .before .before .before .start-of .result
 
-  going : Walking (start .args .s) (start .args .k) from (c .before .loop .dues) (c .before .loop .guests) (c .before .loop .spares) (c .before .loop .portions) (c .before .loop .h) (c .before .loop .count) true
-  going = subst (λ (more : Bool). Walking (start .args .s) (start .args .k) from (c .before .loop .dues) (c .before .loop .guests) (c .before .loop .spares) (c .before .loop .portions) (c .before .loop .h) (c .before .loop .count) more) (c .loop-test .taken) (c .before .loop .inv .3)
+  going : Walking (start .args .s) (start .args .k) from (c .before .loop .dues) (c .before .loop .guests) (c .before .loop .spares) (c .before .loop .lines) (c .before .loop .h) (c .before .loop .count) true
+  going = subst (λ (more : Bool). Walking (start .args .s) (start .args .k) from (c .before .loop .dues) (c .before .loop .guests) (c .before .loop .spares) (c .before .loop .lines) (c .before .loop .h) (c .before .loop .count) more) (c .loop-test .taken) (c .before .loop .inv .3)
 
 -- once it is known what to charge, all that the turn needs follows
 module _ (c : tie.After-charge-of Inv-loop μ-loop) where
@@ -39,16 +39,16 @@ module _ (c : tie.After-charge-of Inv-loop μ-loop) where
   abbrev renewal : tie.After-due-of Inv-loop μ-loop
   renewal = place .before .before .before .before .before
 
-  turned : Turned (start loop .args .s) (start loop .args .k) (from loop) (loop .before .loop .dues) (loop .before .loop .guests) (loop .before .loop .spares) (loop .before .loop .portions) (loop .before .loop .h) (loop .before .loop .count) (renewal .before .renewed .result) (renewal .due-of .result) (place .spare-place .result) (c .before .next-of .result) (c .charge-of .result)
+  turned : Turned (start loop .args .s) (start loop .args .k) (from loop) (loop .before .loop .dues) (loop .before .loop .guests) (loop .before .loop .spares) (loop .before .loop .lines) (loop .before .loop .h) (loop .before .loop .count) (renewal .before .renewed .result) (renewal .due-of .result) (place .spare-place .result) (c .before .portion-for .result) (c .charge-of .result)
   turned =
-      turn (start loop .args .s) (start loop .args .k) (from loop) (start loop .pre .0) (start loop .pre .1) (going loop) (renewal .before .renewed .ensures) (renewal .due-of .ensures) (place .before .before .before .soonest .ensures .1) (place .before .ready .ensures) (place .spare-place .ensures .1) (c .before .next-of .result) (c .before .next-of .ensures) (c .charge-of .ensures)
+      turn (start loop .args .s) (start loop .args .k) (from loop) (start loop .pre .0) (start loop .pre .1) (going loop) (renewal .before .renewed .ensures) (renewal .due-of .ensures) (place .before .before .before .soonest .ensures .1) (place .before .ready .ensures) (place .spare-place .ensures .1) (c .before .portion-for .result) (c .before .portion-for .ensures) (c .charge-of .ensures)
 
   guest-inside : c .charge-of .result .guest < guestPlaces
   guest-inside = omega (arith, turned .inside, loop .before .loop .inv .0)
 
 -- and the next portion has a place
-portion-room : (c : tie.After-portion-of Inv-loop μ-loop) → loop (c .before .before .before .before) .before .loop .count < portionPlaces
-portion-room c =
+line-room : (c : tie.After-line-of Inv-loop μ-loop) → loop (c .before .before .before .before) .before .loop .count < linePlaces
+line-room c =
     let w = loop (c .before .before .before .before) in
     room (start w .args .s) (start w .args .k) (from w) (start w .pre .0) (start w .pre .1) (going w)
 
@@ -60,8 +60,8 @@ module _ (c : tie.After-loop Inv-loop μ-loop) where
   abbrev from-first : ℕ
   from-first = c .before .before .before .before .before .before .before .start-of .result
 
-  gone : Walking (first .args .s) (first .args .k) from-first (c .before .loop .dues) (c .before .loop .guests) (c .before .loop .spares) (c .before .loop .portions) (c .before .loop .h) (c .before .loop .count) false
-  gone = subst (λ (more : Bool). Walking (first .args .s) (first .args .k) from-first (c .before .loop .dues) (c .before .loop .guests) (c .before .loop .spares) (c .before .loop .portions) (c .before .loop .h) (c .before .loop .count) more) (c .loop-test .left) (c .before .loop .inv .3)
+  gone : Walking (first .args .s) (first .args .k) from-first (c .before .loop .dues) (c .before .loop .guests) (c .before .loop .spares) (c .before .loop .lines) (c .before .loop .h) (c .before .loop .count) false
+  gone = subst (λ (more : Bool). Walking (first .args .s) (first .args .k) from-first (c .before .loop .dues) (c .before .loop .guests) (c .before .loop .spares) (c .before .loop .lines) (c .before .loop .h) (c .before .loop .count) more) (c .loop-test .left) (c .before .loop .inv .3)
 
   heads : (c .before .loop .h .head ≤ first .args .s .count) × (first .args .s .count ≤ sparePlaces)
   heads = last-head (first .args .s) (first .args .k) from-first (first .pre .0) (first .pre .1) gone
@@ -78,8 +78,8 @@ start-of-requires c κs = search needs
 dues-of-requires : tie.Need-dues-of-requires Inv-loop μ-loop
 dues-of-requires c κs = search needs
 
-no-portions-requires : tie.Need-no-portions-requires Inv-loop μ-loop
-no-portions-requires c κs = search needs
+no-lines-requires : tie.Need-no-lines-requires Inv-loop μ-loop
+no-lines-requires c κs = search needs
 
 started-requires : tie.Need-started-requires Inv-loop μ-loop
 started-requires c κs = search needs
@@ -94,8 +94,8 @@ loop-holds c =
     let a = l .before .before .before .before in
     let s = a .args .s in
     bounds s (a .args .k) (d .before .start-of .result) (a .pre .0) (a .pre .1)
-    (subst (λ (ds : List ℕ). Walking s (a .args .k) (d .before .start-of .result) ds (l .before .begun .result) (s .spares) (c .before .before .no-portions .result) (c .before .started .result) 0 (c .goes-on .result)) (sym (d .dues-of .ensures))
-    (walking-start s (a .args .k) (d .before .start-of .result) (a .pre .0) (a .pre .1) (c .before .started .ensures) (l .before .begun .ensures) (l .lowest .result) (l .lowest .ensures) (d .before .start-of .ensures) (c .before .before .no-portions .ensures) (c .goes-on .ensures)))
+    (subst (λ (ds : List ℕ). Walking s (a .args .k) (d .before .start-of .result) ds (l .before .begun .result) (s .spares) (c .before .before .no-lines .result) (c .before .started .result) 0 (c .goes-on .result)) (sym (d .dues-of .ensures))
+    (walking-start s (a .args .k) (d .before .start-of .result) (a .pre .0) (a .pre .1) (c .before .started .ensures) (l .before .begun .ensures) (l .lowest .result) (l .lowest .ensures) (d .before .start-of .ensures) (c .before .before .no-lines .ensures) (c .goes-on .ensures)))
 
 mul-e : tie.Need-mul-e Inv-loop μ-loop
 mul-e c = search needs
@@ -152,8 +152,8 @@ mul-x c = search needs
 array-copy-out-x : tie.Need-array-copy-out-x Inv-loop μ-loop
 array-copy-out-x c = search needs
 
-next-of-requires : tie.Need-next-of-requires Inv-loop μ-loop
-next-of-requires c κs = search needs
+portion-for-requires : tie.Need-portion-for-requires Inv-loop μ-loop
+portion-for-requires c κs = search needs
 
 charge-of-requires : tie.Need-charge-of-requires Inv-loop μ-loop
 charge-of-requires c κs = search needs
@@ -182,33 +182,33 @@ mul-spares c = search needs
 array-set-from-spares : tie.Need-array-set-from-spares Inv-loop μ-loop
 array-set-from-spares c = search needs
 
-portion-of-requires : tie.Need-portion-of-requires Inv-loop μ-loop
-portion-of-requires c κs = turned (c .before .before .before) .now
+line-of-requires : tie.Need-line-of-requires Inv-loop μ-loop
+line-of-requires c κs = turned (c .before .before .before) .now
 
-mul-portions : tie.Need-mul-portions Inv-loop μ-loop
-mul-portions c = record { fits = omega (arith, portion-room c) }
+mul-lines : tie.Need-mul-lines Inv-loop μ-loop
+mul-lines c = record { fits = omega (arith, line-room c) }
 
-array-set-from-portions : tie.Need-array-set-from-portions Inv-loop μ-loop
-array-set-from-portions c = portion-room c
+array-set-from-lines : tie.Need-array-set-from-lines Inv-loop μ-loop
+array-set-from-lines c = line-room c
 
 later-requires : tie.Need-later-requires Inv-loop μ-loop
 later-requires c κs = turned (c .before .before .before .before) .later
 
 add-count : tie.Need-add-count Inv-loop μ-loop
-add-count c = record { fits = omega (arith, portion-room (c .before)) }
+add-count c = record { fits = omega (arith, line-room (c .before)) }
 
 goes-on-requires-2 : tie.Need-goes-on-requires-2 Inv-loop μ-loop
 goes-on-requires-2 c κs = search needs
 
 loop-less : tie.Need-loop-less Inv-loop μ-loop
-loop-less c = omega (arith, portion-room (c .before .before))
+loop-less c = omega (arith, line-room (c .before .before))
 
 loop-again : tie.Need-loop-again Inv-loop μ-loop
 loop-again c =
     let q = c .before .before .before .before .before .before in
     let a = start (loop q) in
     bounds (a .args .s) (a .args .k) (from (loop q)) (a .pre .0) (a .pre .1)
-    (turned q .more (c .before .before .before .before .ran .ensures) (c .before .before .before .spent .ensures) (c .before .before .portion-of .ensures) (c .before .later .ensures) (c .goes-on2 .ensures))
+    (turned q .more (c .before .before .before .before .ran .ensures) (c .before .before .before .spent .ensures) (c .before .before .line-of .ensures) (c .before .later .ensures) (c .goes-on2 .ensures))
 
 walk-of-requires : tie.Need-walk-of-requires Inv-loop μ-loop
 walk-of-requires c κs = heads c
@@ -228,7 +228,7 @@ walked-spec =
     lowest-requires
     start-of-requires
     dues-of-requires
-    no-portions-requires
+    no-lines-requires
     started-requires
     goes-on-requires
     loop-holds
@@ -249,7 +249,7 @@ walked-spec =
     spare-place-requires
     mul-x
     array-copy-out-x
-    next-of-requires
+    portion-for-requires
     charge-of-requires
     mul-b
     array-copy-out-b
@@ -259,9 +259,9 @@ walked-spec =
     spent-requires
     mul-spares
     array-set-from-spares
-    portion-of-requires
-    mul-portions
-    array-set-from-portions
+    line-of-requires
+    mul-lines
+    array-set-from-lines
     later-requires
     add-count
     goes-on-requires-2

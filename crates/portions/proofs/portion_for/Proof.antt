@@ -1,11 +1,11 @@
--- `portions::next_of` meets its contract: the spare is taken where its deadline is at most the guest's.
+-- `portions::portion_for` meets its contract: the spare is taken where its deadline is at most the guest's.
 use mathlib.Core.Path.{refl}
 use native.Mathlib.Omega.{arith}
 use Rattle.order.specs.Choice.{pickOf}
 use Rattle.portions.proofs.Charging.{spare-first, spare-later}
 use borrow.Author.Needs.{needs}
-use Rattle.portions.proofs.next_of.Statement.{statement}
-use Rattle.portions.proofs.next_of.Tie as tie
+use Rattle.portions.proofs.portion_for.Statement.{statement}
+use Rattle.portions.proofs.portion_for.Tie as tie
 
 enum-known-pick : tie.Need-enum-known-pick
 enum-known-pick c = search needs
@@ -33,7 +33,7 @@ returns-5 : tie.Need-returns-5
 unfolding pickOf
 returns-5 c = rw (c .before .before .pick .given .1, c .if2 .left)
 
-pub next-of-spec : {M : Type 1} → statement M
-next-of-spec =
+pub portion-for-spec : {M : Type 1} → statement M
+portion-for-spec =
     tie.close
     (tie.spec enum-known-pick enum-told returns returns-2 returns-3 returns-4 returns-5)
