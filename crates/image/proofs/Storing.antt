@@ -68,7 +68,7 @@ module _ (t : Table) (buffer : List ℕ) where
   module _ (none : first (tableRows t) ≡ 0) where
     -- only the buffer's length is left to refuse
     by-length : first (writeRows t buffer) ≡ first (lengthRow t buffer ∷ [])
-    by-length = first-behind (tableRows t) (lengthRow t buffer ∷ []) (clear 0 (tableRows t) refl none)
+    by-length = first-behind (tableRows t) (lengthRow t buffer ∷ []) (clear (tableRows t) refl none)
 
     pub buffer-refused : length buffer < imageLength t → TableWritten t buffer (Refused BufferShort) buffer
     buffer-refused h =

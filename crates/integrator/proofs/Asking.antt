@@ -20,6 +20,6 @@ use Rattle.integrator.specs.Stretch.{WithinSpan}
 pub span-some : (s : State) (r : Asked) → AskedFor s r → numberOf (r .answer) ≡ 0 → WithinSpan 1 (r .next)
 span-some s r a went =
     let none : first (askRows s) ≡ 0 = sym (a .answer) ∙ went in
-    let h : sound s ≡ true = not-false (sound s) (clear 0 (askRows s) refl none .0) in
+    let h : sound s ≡ true = not-false (sound s) (clear (askRows s) refl none .0) in
     let same : portionOf (r .next) ≡ ask (model s) = a .next ∙ ap (λ (n : ℕ). told n ask nothingToDo s) none in
     subst (λ (p : Portion). Within 1 (spanOf p)) (sym same) (span-positive (model s) (sane-model s h))

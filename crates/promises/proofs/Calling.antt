@@ -17,7 +17,7 @@ use Rattle.rules.specs.Places.{model, packed}
 use Rattle.rules.specs.Sound.{sound}
 use Rattle.rules.specs.Calls.{arriveRows, doneRows, advanceRows, askRows, marginRows, told, moved, Call, arrives, finishes, advances, asks, asksActive, asksMargin, numberGiven, stateAfter, run}
 use Rattle.promises.specs.Promises.{SoundKept, PackedModel, AdvanceNothing, AdvanceInParts}
-use Rattle.promises.proofs.Refusing.{clear, none-given, exactly}
+use Rattle.promises.proofs.Refusing.{clear, none-given, smallest-given}
 use Rattle.promises.proofs.Packing.{model-packed}
 use Rattle.promises.proofs.Facts.{Sane, sane-model, packed-sound, packed-back, guests-count}
 use Rattle.promises.proofs.Keeping.{MayArrive, arrive-sane, done-sane}
@@ -35,7 +35,7 @@ named s i h k = omega (arith, guests-count s (not-false (sound s) h), leb-false 
 pub may-arrive : (s : State) (i : ℕ) → first (arriveRows s i) ≡ 0 → MayArrive (model s) i
 unfolding model
 may-arrive s i h =
-    let c = clear 0 (arriveRows s i) refl h in
+    let c = clear (arriveRows s i) refl h in
     record { named = named s i (c .0) (c .1 .0); jobs = c .1 .1 .0; room = c .1 .1 .1 .0; early = c .1 .1 .1 .1 .0 }
 
 -- what an accepted advance has
@@ -46,7 +46,7 @@ pub record MayAdvance (s : State) (k : ℕ) : Type 0 where
 pub may-advance : (s : State) (k : ℕ) → first (advanceRows s k) ≡ 0 → MayAdvance s k
 unfolding model
 may-advance s k h =
-    let c = clear 0 (advanceRows s k) refl h in
+    let c = clear (advanceRows s k) refl h in
     record { whole = not-false (sound s) (c .0); time = ltb-false lastTick (s .now + k) (c .1 .0) }
 
 pub advance-allowed : (s : State) (k : ℕ) → MayAdvance s k → first (advanceRows s k) ≡ 0
@@ -72,7 +72,7 @@ unfolding stateAfter
 sound-kept (arrives i) s h = moved-sound (arriveRows s i) (arrive i) s h (λ e. arrive-sane i (model s) (may-arrive s i e) (sane-model s h))
 sound-kept (finishes i) s h =
     moved-sound (doneRows s i) (done i) s h
-    (λ e. let c = clear 0 (doneRows s i) refl e in done-sane i (model s) (named s i (c .0) (c .1 .0)) (sane-model s h))
+    (λ e. let c = clear (doneRows s i) refl e in done-sane i (model s) (named s i (c .0) (c .1 .0)) (sane-model s h))
 sound-kept (advances k) s h = moved-sound (advanceRows s k) (advance k) s h (λ e. advance-sane k (model s) (may-advance s k e .time) (sane-model s h))
 sound-kept asks s h = h
 sound-kept asksActive s h = h
@@ -89,12 +89,12 @@ refute false h e = never h refl
 
 -- "the state is not sound" is the only condition of 1
 pub sound-not-one : (c : Call) (s : State) → sound s ≡ true → numberGiven c s ≡ 1 → ⊥
-sound-not-one (arrives i) s h e = refute (sound s) h (exactly (arriveRows s i) refl 0 .0 e .0)
-sound-not-one (finishes i) s h e = refute (sound s) h (exactly (doneRows s i) refl 0 .0 e .0)
-sound-not-one (advances k) s h e = refute (sound s) h (exactly (advanceRows s k) refl 0 .0 e .0)
-sound-not-one asks s h e = refute (sound s) h (exactly (askRows s) refl 0 .0 e .0)
-sound-not-one asksActive s h e = refute (sound s) h (exactly (askRows s) refl 0 .0 e .0)
-sound-not-one (asksMargin i) s h e = refute (sound s) h (exactly (marginRows s i) refl 0 .0 e .0)
+sound-not-one (arrives i) s h e = refute (sound s) h (smallest-given (arriveRows s i) refl 0 .0 e .0)
+sound-not-one (finishes i) s h e = refute (sound s) h (smallest-given (doneRows s i) refl 0 .0 e .0)
+sound-not-one (advances k) s h e = refute (sound s) h (smallest-given (advanceRows s k) refl 0 .0 e .0)
+sound-not-one asks s h e = refute (sound s) h (smallest-given (askRows s) refl 0 .0 e .0)
+sound-not-one asksActive s h e = refute (sound s) h (smallest-given (askRows s) refl 0 .0 e .0)
+sound-not-one (asksMargin i) s h e = refute (sound s) h (smallest-given (marginRows s i) refl 0 .0 e .0)
 
 -- ---- advances
 

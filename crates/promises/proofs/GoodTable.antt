@@ -75,7 +75,7 @@ pub record Good (t : Table) : Type 0 where
 
 pub good : (t : Table) → first (tableRows t) ≡ 0 → Good t
 good t h =
-    let c = clear 0 (tableRows t) refl h in
+    let c = clear (tableRows t) refl h in
     let n = between 1 guestPlaces (t .count) (c .0) in
     let H = between 1 longestFrame (t .frame) (c .1 .0) in
     let all = every (fitsFrame (t .frame)) (entriesOf t) in

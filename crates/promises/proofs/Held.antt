@@ -4,6 +4,7 @@ use mathlib.Core.List.{[], _∷_}
 use mathlib.Core.Bool.{true}
 use Prim.Native.Nat.{ℕ, zero, suc, _≤_, _<_}
 use native.Mathlib.Omega.{arith}
+use Rattle.laws.proofs.Cases.{never}
 use Rattle.rules.specs.Table.{goodTable}
 use Rattle.rules.specs.Model.{active, leftOf, deadlineOf, guestAt, capacityOf, dueOf, spareAt, spare}
 use Rattle.rules.specs.Steps.{arrive, done, ownBudget, Use, runs, renewed, next, serve, tick, advance, ask}
@@ -84,6 +85,11 @@ pub words-held : WordsHeld
 unfolding bit actives
 words-held =
     record {
+      conditions = refl;
+      row-numbers = refl;
+      second-decides = (refl, λ j l. let z : j ≡ 0 = omega arith in rw z refl);
+      first-does-not = λ d. never (d .0) refl;
+      rise = refl;
       can-run = refl;
       runs-first = record { place = omega arith; is-active = refl; smallest = all-at-11; lowest = λ k below is. absurd (omega (arith, below)) };
       not-first = λ r. let lower : 11 < 11 = r .lowest 0 (omega arith) refl in omega arith;

@@ -130,7 +130,7 @@ pub record Readable (image : List ℕ) : Type 0 where
 -- an image that gives no number has that
 pub readable : (image : List ℕ) → first (readRows image) ≡ 0 → Readable image
 readable image h =
-    let p = clear 0 (readRows image) refl h in
+    let p = clear (readRows image) refl h in
     let size = offsetIn image + entryBytes * countIn image + trailerBytes in
     record {
       length-low = between shortestImage longestImage (length image) (p .0) .0;
@@ -217,7 +217,7 @@ module _ (t : Table) (g : Good t) where
 -- "Reading those bytes gives the same table"
 pub written-is-read : WrittenIsRead
 written-is-read t buffer h =
-    let c = clear-front (tableRows t) (ltb (length buffer) (imageLength t) gives 15 ∷ []) (clear 0 (writeRows t buffer) refl h) in
+    let c = clear-front (tableRows t) (ltb (length buffer) (imageLength t) gives 15 ∷ []) (clear (writeRows t buffer) refl h) in
     let g = good t (none-given (tableRows t) c) in
     let front : take (imageLength t) (overwritten t buffer) ≡ imageOf t = take-at (imageOf t) _ (imageLength t) (image-long t g) in
     rw front (none-given (readRows (imageOf t)) (read-passes t g c), table-back t g)
@@ -225,7 +225,7 @@ written-is-read t buffer h =
 -- "bytes behind them stay"
 pub behind-stays : BehindStays
 behind-stays t buffer h =
-    let c = clear 0 (writeRows t buffer) refl h in
+    let c = clear (writeRows t buffer) refl h in
     let g = good t (none-given (tableRows t) (clear-front (tableRows t) (ltb (length buffer) (imageLength t) gives 15 ∷ []) c)) in
     let room = ltb-false (length buffer) (imageLength t) (c .1 .1 .1 .1 .0) in
     (length-append (imageOf t) _ ∙ omega (arith, image-long t g, length-drop (imageLength t) buffer), drop-at (imageOf t) _ (imageLength t) (image-long t g))

@@ -6,7 +6,8 @@ use Prim.Native.Nat.{ℕ}
 use lib.ListN.{length, drop}
 use Rattle.rules.specs.declared.Refusal.the-variants.{EndOfTime}
 use Rattle.rules.specs.declared.Answer.the-variants.{Went, Refused}
-use Rattle.rules.specs.Model.{guest, spare, Model}
+use Rattle.rules.specs.Refusals.{Row, _gives_}
+use Rattle.rules.specs.Model.{guest, spare}
 use Rattle.rules.specs.Steps.{ownBudget, spareOf, runs, burns, nothing, limited, endless, portion}
 use Rattle.rules.specs.Calls.{arrives, finishes, advances, asks, asksActive, asksMargin}
 use Rattle.rules.specs.Lines.{line}
@@ -15,7 +16,7 @@ use Rattle.rules.specs.HeldSteps.{four, of, at10, then}
 use Rattle.promises.specs.Joining.{joined, walkedTo, leftAfter, uses, ticksOf}
 use Rattle.promises.specs.Spans.{fewer, shorter, Within, whose, Ends}
 use Rattle.promises.specs.Runs.{arrival, completion, oneTick, happen, afterAll, events, passed, onBudget, onSpare, tickBy, ownTicks, lentTicks}
-use Rattle.promises.specs.Promises.{RunsFirst, canRun, NoneBy, NothingOverdue, bit, actives}
+use Rattle.promises.specs.Promises.{conditionAt, numberAt, Decides, rises, RunsFirst, canRun, NoneBy, NothingOverdue, bit, actives}
 use Rattle.promises.specs.Histories.{walkCall}
 
 -- walks one after the other: a guest (1, 1) has a portion in each tick, and a walk answers 64
@@ -59,8 +60,19 @@ pub record RunsHeld : Type 0 where
       (lentTicks 0 12 (advances 9 ∷ finishes 0 ∷ arrives 0 ∷ advances 1 ∷ []) sample ∷ ownTicks 0 12 (advances 9 ∷ finishes 0 ∷ arrives 0 ∷ advances 1 ∷ []) sample ∷ ownTicks 0 10 (advances 10 ∷ []) sample ∷ ownTicks 1 10 (advances 10 ∷ []) sample ∷ [])
       ≡ 8 ∷ 2 ∷ 2 ∷ 0 ∷ []
 
+-- two rows, of which the second holds
+abbrev pub twoRows : List Row
+twoRows = false gives 3 ∷ true gives 5 ∷ []
+
 -- the other words
 pub record WordsHeld : Type 0 where
+  -- the rows by their places
+  pub conditions : (conditionAt 0 twoRows ∷ conditionAt 1 twoRows ∷ conditionAt 2 twoRows ∷ []) ≡ false ∷ true ∷ false ∷ []
+  pub row-numbers : (numberAt 0 twoRows ∷ numberAt 1 twoRows ∷ numberAt 2 twoRows ∷ []) ≡ 3 ∷ 5 ∷ 0 ∷ []
+  pub second-decides : Decides 1 twoRows
+  pub first-does-not : Decides 0 twoRows → ⊥
+  -- numbers that rise from above 0, and some that do not
+  pub rise : map (rises 0) ((1 ∷ 2 ∷ 4 ∷ []) ∷ (0 ∷ 1 ∷ []) ∷ (1 ∷ 1 ∷ []) ∷ (2 ∷ 1 ∷ []) ∷ []) ≡ true ∷ false ∷ false ∷ false ∷ []
   -- active, with budget left
   pub can-run : map canRun (of 0 0 9 ∷ of 1 0 9 ∷ of 1 1 9 ∷ of 2 2 9 ∷ []) ≡ false ∷ false ∷ true ∷ true ∷ []
   -- of two equal guests the lower one runs first, and the other does not

@@ -1,10 +1,11 @@
 -- Every promise of the rules as a named statement; proofs/ proves each under the same name with small letters.
 use mathlib.Core.Path.{_≡_}
-use mathlib.Core.Bool.{Bool, true, false, cond}
+use mathlib.Core.Bool.{Bool, true, false, cond, _&&_}
 use mathlib.Core.List.{List, [], _∷_, map}
 use mathlib.Core.Logic.{_↔_}
 use Prim.Native.Nat.{ℕ, zero, suc, _+_, _/_, _%_, _≤_, _<_}
 use lib.Count.{ones}
+use lib.Dec.{ltb}
 use lib.IntN.{pos, _+ℤ_}
 use lib.ListN.{length, take, drop, replicate}
 use lib.Pow.{areBytes}
@@ -21,7 +22,7 @@ use Rattle.rules.specs.declared.Loaded.{Loaded}
 use Rattle.rules.specs.declared.Use.{Use as DeclaredUse}
 use Rattle.rules.specs.declared.Walk.{Walk}
 use Rattle.rules.specs.Limits.{lastTick, linePlaces}
-use Rattle.rules.specs.Refusals.{Row, first, numbers, holds, numberOf}
+use Rattle.rules.specs.Refusals.{Row, _gives_, first, numbers, holds, numberOf}
 use Rattle.rules.specs.Table.{tableRows, noTable}
 use Rattle.rules.specs.Model.{guest, budgetOf, ownOf, lentOf, capacityOf, spareAt, Guest, Spare, spare, Model, leftOf, deadlineOf, dueOf, active, guestAt, maskOf, activeCount, tallies}
 use Rattle.rules.specs.Steps.{ownBudget, spareOf, Use, runs, burns, nothing, Span, limited, endless, Portion, portion, renewed, next, advance}
@@ -61,9 +62,25 @@ PackedModel = (s : State) → sound s ≡ true → packed (model s) ≡ s
 
 -- ---- exactly when listed
 
--- a number is given if and only if its own condition holds and no smaller one's; one that is not listed is never given
+-- the condition of the row in place i, counted from 0; behind the last row none holds
+abbrev pub conditionAt : ℕ → List Row → Bool
+conditionAt i [] = false
+conditionAt zero (b gives n ∷ rows) = b
+conditionAt (suc i) (b gives n ∷ rows) = conditionAt i rows
+
+-- and its number
+abbrev pub numberAt : ℕ → List Row → ℕ
+numberAt i [] = 0
+numberAt zero (b gives n ∷ rows) = n
+numberAt (suc i) (b gives n ∷ rows) = numberAt i rows
+
+-- the row in place i decides: its condition holds, and that of no row before it
+abbrev pub Decides : ℕ → List Row → Type 0
+Decides i rows = (conditionAt i rows ≡ true) × ((j : ℕ) → j < i → conditionAt j rows ≡ false)
+
+-- a number is given if and only if a row with that number decides; one that is not listed is never given
 abbrev pub Exactly : List Row → Type 0
-Exactly rows = (k : ℕ) → (first rows ≡ suc k) ↔ ((holds (suc k) rows ≡ true) × ((j : ℕ) → j < suc k → holds j rows ≡ false))
+Exactly rows = (k : ℕ) → (first rows ≡ suc k) ↔ ((i : ℕ) × (numberAt i rows ≡ suc k) × Decides i rows)
 
 -- these are the numbers that may be given, each exactly when listed
 pub record Listed (rows : List Row) (may : List ℕ) : Type 0 where
@@ -81,6 +98,29 @@ pub record ExactlyWhenListed : Type 0 where
   pub fresh : (t : Table) → Listed (tableRows t) (10 ∷ 12 ∷ 13 ∷ 14 ∷ [])
   pub read : (image : List ℕ) → Listed (readRows image) (8 ∷ 9 ∷ 10 ∷ 11 ∷ 12 ∷ 13 ∷ 14 ∷ [])
   pub write : (t : Table) (buffer : List ℕ) → Listed (writeRows t buffer) (10 ∷ 12 ∷ 13 ∷ 14 ∷ 15 ∷ [])
+
+-- the numbers of the rows rise, the first of them above `low`
+abbrev pub rises : ℕ → List ℕ → Bool
+rises low [] = true
+rises low (n ∷ ns) = ltb low n && rises n ns
+
+-- so it is with every call
+pub record RowsRise : Type 0 where
+  pub arrive : (s : State) (i : ℕ) → rises 0 (numbers (arriveRows s i)) ≡ true
+  pub done : (s : State) (i : ℕ) → rises 0 (numbers (doneRows s i)) ≡ true
+  pub advance : (s : State) (k : ℕ) → rises 0 (numbers (advanceRows s k)) ≡ true
+  pub ask : (s : State) → rises 0 (numbers (askRows s)) ≡ true
+  pub margin : (s : State) (i : ℕ) → rises 0 (numbers (marginRows s i)) ≡ true
+  pub fresh : (t : Table) → rises 0 (numbers (tableRows t)) ≡ true
+  pub read : (image : List ℕ) → rises 0 (numbers (readRows image)) ≡ true
+  pub write : (t : Table) (buffer : List ℕ) → rises 0 (numbers (writeRows t buffer)) ≡ true
+
+-- "Where several apply, the smallest number is given": of rows that rise, a number is given if and only if its own condition holds and no
+-- smaller one's
+abbrev pub SmallestGiven : Type 0
+SmallestGiven =
+    (rows : List Row) → rises 0 (numbers rows) ≡ true
+    → (k : ℕ) → (first rows ≡ suc k) ↔ ((holds (suc k) rows ≡ true) × ((j : ℕ) → j < suc k → holds j rows ≡ false))
 
 -- ---- what a refusal gives back
 
