@@ -8,11 +8,11 @@ use crate::wire::number_at;
 use libc::STDIN_FILENO;
 use rules::Activity;
 use rules::Asked;
-use rules::Margin;
-use rules::Portion;
-use rules::Outcome;
 use rules::LINE_PLACES;
 use rules::Line;
+use rules::Margin;
+use rules::Outcome;
+use rules::Portion;
 use rules::Source;
 use rules::State;
 use rules::Use;
@@ -78,7 +78,11 @@ fn put_asked(asked: Asked, buffer: &mut [u8], filled: usize) -> usize {
             let behind = put_source(guest as u64, source, buffer, at);
             put_numbers(&[due, span], buffer, behind)
         }
-        Portion::Burn(owner, due, span) => put_numbers(&[3, 0, owner as u64, due, span], buffer, at),
+        Portion::Burn(owner, due, span) => put_numbers(
+            &[3, 0, owner as u64, due, span],
+            buffer,
+            at,
+        ),
         Portion::Nothing => put_numbers(&[0, 0, 0, 0, 0], buffer, at),
     }
 }

@@ -12,8 +12,8 @@ use crate::lines::write_event;
 use crate::lines::write_refusal;
 use crate::lines::write_stretch;
 use rules::Answer;
-use rules::Portion;
 use rules::Outcome;
+use rules::Portion;
 use rules::State;
 
 mod events;
