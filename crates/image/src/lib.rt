@@ -98,6 +98,7 @@ fn loaded(image: &[u8], t: Trailer) -> Loaded
     })
 }
 
+// Any bytes: a refused image, an empty one too, gives a table of zeros.
 pub fn read(image: &[u8]) -> Loaded
     ensures { λ l. ⌜ TableRead (now (image .entry)) l ⌝ }
 {

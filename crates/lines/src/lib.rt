@@ -21,6 +21,7 @@ pub fn has_room(length: usize, filled: usize, room: usize) -> bool
     filled <= length - room
 }
 
+// Behind the bytes that the buffer holds; where a whole line has no room, nothing is put, and so with the other two.
 pub fn put_portion(line: Line, buffer: &mut [u8], filled: usize) -> usize
     ensures { λ r. ⌜ LinePut (portionBytes line) (now (buffer .entry)) filled (now (buffer .exit)) r ⌝ }
 {
@@ -35,6 +36,7 @@ pub fn put_portion(line: Line, buffer: &mut [u8], filled: usize) -> usize
     behind + 1
 }
 
+// `! number`, whatever the number is.
 pub fn put_refusal(number: u64, buffer: &mut [u8], filled: usize) -> usize
     ensures { λ r. ⌜ LinePut (refusalBytes number) (now (buffer .entry)) filled (now (buffer .exit)) r ⌝ }
 {
@@ -45,6 +47,7 @@ pub fn put_refusal(number: u64, buffer: &mut [u8], filled: usize) -> usize
     put_closed(number, b'\n', buffer, filled + 1)
 }
 
+// `end` and the tick.
 pub fn put_end(tick: u64, buffer: &mut [u8], filled: usize) -> usize
     ensures { λ r. ⌜ LinePut (endBytes tick) (now (buffer .entry)) filled (now (buffer .exit)) r ⌝ }
 {

@@ -28,6 +28,7 @@ fn refusal_number(r: Refusal) -> u32
     }
 }
 
+// 0 is no refusal.
 pub fn number_of(a: Answer) -> u32
     ensures { λ n. ⌜ NumberTold a n ⌝ }
 {

@@ -106,8 +106,8 @@ renewalRows =
     ∷ says (values (jobs punctual ∷ punctual .count ∷ deadline punctual ∷ [])) (values (0 ∷ 0 ∷ 9 ∷ []))
     ∷ []
 
--- "(3, 4) and (2, 8), H = 8: accepted. (3, 4) and (3, 8): refusal 14, 9 against 8."
--- "(1, 1), H = 1: accepted. (1, 3), H = 8: refusal 13. (0, 4), H = 8: refusal 13."
+-- "(3, 4) and (2, 8), H = 8: accepted.", "(3, 4) and (3, 8): refusal 14, 9 against 8."
+-- "(1, 1), H = 1: accepted.", "(1, 3), H = 8: refusal 13.", "(0, 4), H = 8: refusal 13."
 unfoldable pub tableBorders : List Border
 tableBorders =
     let over = table 8 (3 by 4 ∷ 3 by 8 ∷ []) in
@@ -147,7 +147,7 @@ ownSpareRows =
     ∷ says (values (capacities ticked)) (values (2 ∷ []))
     ∷ []
 
--- "Advance 0 at tick 2^40: accepted. Advance 1: refusal 7."
+-- "Advance 0 at tick 2^40: accepted.", "Advance 1: refusal 7."
 unfoldable pub endRows : List Border
 unfolding endOfTime
 endRows =

@@ -54,11 +54,11 @@ pub record NeverOne : Type 0 where
 
 -- ---- demand 3 of the states that come back
 
--- "no capacity above zero has a deadline at or before now"
+-- no capacity above zero has a deadline at or before now
 abbrev pub FirstHalfReached : Type 0
 FirstHalfReached = (t : Table) (cs : List Call) (s : State) → History t cs s → NothingOverdue (model s)
 
--- "and a guest woken with deadline D has run at least its full budget by tick D, unless it went idle": `before` is the state that guest i
+-- a guest woken with deadline D has run at least its full budget by tick D, unless it went idle; `before` is the state that guest i
 -- was woken in, w the one that the wake-up left, and `after` any later one, with tick D reached on the way; by then the stored tally of own
 -- ticks has grown by Q, whatever the guest did after tick D
 abbrev pub SecondHalfReached : Type 0

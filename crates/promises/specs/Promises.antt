@@ -199,7 +199,7 @@ canRun (guest Q T zero c d own lent) = false
 canRun (guest Q T (suc jobs) zero d own lent) = false
 canRun (guest Q T (suc jobs) (suc c) d own lent) = true
 
--- "whoever runs can run and has the smallest deadline of all that can", whatever the order among equals
+-- whoever runs can run and has the smallest deadline of all that can, whatever the order among equals
 pub record Earliest (gs : List Guest) (i : ℕ) : Type 0 where
   pub place : i < length gs
   pub can : canRun (guestAt i gs) ≡ true
@@ -208,7 +208,7 @@ pub record Earliest (gs : List Guest) (i : ℕ) : Type 0 where
 abbrev pub NobodyCan : List Guest → Type 0
 NobodyCan gs = (k : ℕ) → canRun (guestAt k gs) ≡ false
 
--- "a spare is taken just where its deadline is no later"
+-- a spare is taken just where its deadline is no later
 abbrev pub Fair : List Guest → List Spare → Portion → Type 0
 Fair gs ss (portion (runs i ownBudget) d span) = Earliest gs i × NoneBy (deadlineOf (guestAt i gs)) ss
 Fair gs ss (portion (runs i (spareOf owner)) d span) = Earliest gs i × FirstSpareIs ss owner d span × (d ≤ deadlineOf (guestAt i gs))
@@ -223,13 +223,13 @@ ChoiceIsFair =
 
 -- ---- demand 3, the two halves
 
--- "no capacity above zero has a deadline at or before now": a guest's own, or a spare
+-- demand 3, first half: no capacity above zero has a deadline at or before now, a guest's own or a spare
 abbrev pub NothingOverdue : Model → Type 0
 NothingOverdue m =
     ((i : ℕ) → 0 < leftOf (guestAt i (m .guests)) → m .now < deadlineOf (guestAt i (m .guests)))
     × ((k : ℕ) → 0 < capacityOf (spareAt k (m .spares)) → m .now < dueOf (spareAt k (m .spares)))
 
--- "From a fresh state, after any calls, refused ones too: no capacity above zero has a deadline at or before now": in every state of
+-- from a fresh state, after any calls, refused ones too: in every state of
 -- single steps, those inside an advance too
 abbrev pub FirstHalf : Type 0
 FirstHalf = (t : Table) → first (tableRows t) ≡ 0 → (cs : List Call) (k : ℕ) → NothingOverdue (passed k cs (freshState t))
@@ -243,7 +243,7 @@ pub record Wakes (s : State) (i : ℕ) : Type 0 where
 abbrev pub StaysActive : ℕ → ℕ → List Call → State → Type 0
 StaysActive i k cs s = (j : ℕ) → j ≤ k → active (guestAt i (passed j cs s .guests)) ≡ true
 
--- "and a guest woken with deadline D has run at least its full budget by tick D, unless it went idle": w is the state that the wake-up
+-- demand 3, second half: a guest woken with deadline D has run at least its full budget by tick D, unless it went idle; w is the state that the wake-up
 -- left, D and Q are guest i's there, and k single steps of any later calls reach tick D
 abbrev pub SecondHalf : Type 0
 SecondHalf =
@@ -269,7 +269,7 @@ pub record Line212 : Type 0 where
   pub refused : (c : Call) → numberGiven c line212State ≡ 1
   pub starves : map (λ (b : Border). b .computed) line212Rows ≡ map (λ (b : Border). b .expected) line212Rows
 
--- ---- demand 2, "An advance of many ticks ends where that many single ticks end."
+-- ---- demand 2: an advance of many ticks ends where that many single ticks end
 
 -- "k = 0 is accepted and changes nothing."
 abbrev pub AdvanceNothing : Type 0

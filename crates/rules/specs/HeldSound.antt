@@ -27,7 +27,7 @@ sounds ss = map sound ss
 pub record SoundHeld : Type 0 where
   -- the sample keeps every point
   pub kept : sound sample ≡ true
-  -- "Time is a whole number of ticks, 0 to 2^40."
+  -- "Time is a whole number of ticks (10 microseconds), 0 to 2^40."
   pub tick : sounds (lone 0 0 0 0 ∷ lone 1099511627776 0 0 0 ∷ lone 1099511627777 0 0 0 ∷ []) ≡ true ∷ true ∷ false ∷ []
   -- the table: as it is; n = 0 and 17; H = 0; Q = 0, Q = T + 1, a T that does not divide H, an unused place; a share of H and of H + 1
   pub good-table : sound (withTable (counted 24 2 (4 by 12 ∷ 4 by 8 ∷ []))) ≡ true

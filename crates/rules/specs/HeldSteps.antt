@@ -35,7 +35,7 @@ pub record ModelHeld : Type 0 where
       (let g = guest 1 2 3 4 5 6 7 in budgetOf g ∷ jobsOf g ∷ leftOf g ∷ deadlineOf g ∷ ownOf g ∷ lentOf g ∷ talliesOf g ∷ [])
       ≡ 1 ∷ 3 ∷ 4 ∷ 5 ∷ 6 ∷ 7 ∷ 13 ∷ []
   pub spare-numbers : (let x = spare 1 2 3 in dueOf x ∷ ownerOf x ∷ capacityOf x ∷ []) ≡ 1 ∷ 2 ∷ 3 ∷ []
-  -- "waiting jobs (above 0 is active, 0 is idle)"
+  -- "waiting jobs 0 to 255 (above 0 is active, 0 is idle)"
   pub actives : map active (of 0 0 9 ∷ of 1 0 9 ∷ of 2 1 9 ∷ []) ≡ false ∷ true ∷ true ∷ []
   pub idles : map idleGuest (of 0 0 9 ∷ of 1 0 9 ∷ []) ≡ true ∷ false ∷ []
   -- by their numbers, "numbered from 0"

@@ -242,7 +242,7 @@ fn spares_rise(spares: [Spare; SPARE_PLACES], count: usize) -> bool
     ok
 }
 
-// "spares plus active guests together at most 64"
+// "spares plus active guests are at most 64"
 fn has_room(guests: [Guest; GUEST_PLACES], places: usize, count: usize) -> bool
     requires { ⌜ (places ≤ guestPlaces) × (count ≤ sparePlaces) ⌝ }
     ensures { λ r. ⌜ r ≡ leb (count + activeCount (inUse places guests)) sparePlaces ⌝ }

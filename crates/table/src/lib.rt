@@ -105,6 +105,7 @@ fn shares(entries: [Entry; GUEST_PLACES], count: usize, frame: u64) -> u64
     sum
 }
 
+// The count comes first, since it says which places are in use; any numbers may stand in them.
 pub fn check(t: Table) -> Answer
     ensures { λ r. ⌜ TableChecked t r ⌝ }
 {

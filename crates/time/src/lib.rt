@@ -80,6 +80,7 @@ fn advanced(s: State, k: u64) -> State
     state
 }
 
+// k = 0 is accepted and changes nothing; past the last tick no tick is made.
 pub fn advance(s: State, k: u64) -> Outcome
     ensures { λ r. ⌜ Advanced s k r ⌝ }
 {
@@ -91,6 +92,7 @@ pub fn advance(s: State, k: u64) -> Outcome
     Outcome { answer, state }
 }
 
+// At most as many portions as there are places for lines; the ticks behind them are left.
 pub fn walk(s: State, k: u64) -> Walk
     ensures { λ r. ⌜ Walked s k r ⌝ }
 {

@@ -1,4 +1,4 @@
--- `lines::has_room` meets its contract.
+-- `lines::has_room` meets its contract: room is asked for by what is left of the buffer, so that no sum wraps.
 use native.Mathlib.Omega.{arith}
 use Rattle.lines.proofs.Putting.{room-none, room-told}
 use Rattle.lines.proofs.has_room.Statement.{statement}

@@ -1,4 +1,4 @@
--- `order::bit_of` meets its contract.
+-- `order::bit_of` meets its contract: by whether the guest has a job.
 use borrow.Author.Needs.{needs}
 use Rattle.order.proofs.Choosing.{bit-active}
 use Rattle.order.proofs.bit_of.Statement.{statement}

@@ -1,4 +1,4 @@
--- `order::lowest` meets its contract.
+-- `order::lowest` meets its contract: the definition counts the zeros at the mask's end as the machine does.
 use mathlib.Core.Path.{ap}
 use Prim.Native.Nat.{ℕ}
 use native.Mathlib.Nat.{lt-of-le-of-lt}

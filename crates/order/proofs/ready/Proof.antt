@@ -1,4 +1,4 @@
--- `order::ready` meets its contract.
+-- `order::ready` meets its contract: by whether the guest has a job.
 use Rattle.order.specs.Choice.{pickOf}
 use Rattle.order.proofs.Choosing.{ready-active}
 use Rattle.order.proofs.ready.Statement.{statement}

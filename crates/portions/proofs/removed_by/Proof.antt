@@ -1,4 +1,4 @@
--- `portions::removed_by` meets its contract.
+-- `portions::removed_by` meets its contract: one comparison, both ways.
 use native.Mathlib.Omega.{arith}
 use borrow.Author.Tests.{le-leb, lt-leb}
 use Rattle.portions.proofs.removed_by.Statement.{statement}

@@ -1,4 +1,4 @@
--- `portions::run_charge` meets its contract.
+-- `portions::run_charge` meets its contract: source by source, each number as it is written.
 use mathlib.Core.Path.{refl}
 use borrow.Author.Needs.{needs}
 use Rattle.portions.proofs.run_charge.Statement.{statement}

@@ -1,4 +1,4 @@
--- `time::advance` meets its contract.
+-- `time::advance` meets its contract: a refusal gives the state back, and else the walks make the rules' advance.
 use Rattle.time.proofs.Advancing.{may, advance-went, advance-refused}
 use borrow.Author.Needs.{needs}
 use Rattle.time.proofs.advance.Statement.{statement}

@@ -1,4 +1,4 @@
--- `time::walk` meets its contract.
+-- `time::walk` meets its contract: a refusal gives the state back with no line, and else the walk is the rules'.
 use Rattle.time.proofs.Advancing.{may, walk-refused}
 use borrow.Author.Needs.{needs}
 use Rattle.time.proofs.walk.Statement.{statement}

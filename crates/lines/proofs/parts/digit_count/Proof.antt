@@ -1,4 +1,4 @@
--- `lines::parts::digit_count` meets its contract.
+-- `lines::parts::digit_count` meets its contract: each turn takes one digit off, and a number of 64 bits has 20 at most.
 use native.Mathlib.Omega.{arith}
 use Rattle.text.proofs.Decimal.{word-digits}
 use Rattle.lines.proofs.Decimal.{Counted, counted-start, counted-few, counted-more, counted-end}

@@ -1,4 +1,4 @@
--- `lines::parts::put_dash` meets its contract.
+-- `lines::parts::put_dash` meets its contract: two bytes, one behind the other.
 use Prim.Native.Nat.{_+_}
 use native.Mathlib.Omega.{arith}
 use lib.ListN.{set, length-set}

@@ -1,4 +1,4 @@
--- `dues::due_of` meets its contract.
+-- `dues::due_of` meets its contract: by whether the guest has a job.
 use mathlib.Core.Path.{refl}
 use borrow.Author.Tests.{ne-eqb}
 use Rattle.time.proofs.dues.due_of.Statement.{statement}

@@ -1,4 +1,4 @@
--- `dues::dues_of` meets its contract.
+-- `dues::dues_of` meets its contract: at i the numbers of the first i guests are in.
 use Prim.Native.Nat.{_≤_, _-_}
 use Rattle.laws.proofs.Places.{length-mapped}
 use Rattle.rules.specs.Limits.{guestPlaces}

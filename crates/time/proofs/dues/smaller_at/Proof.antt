@@ -1,4 +1,4 @@
--- `dues::smaller_at` meets its contract.
+-- `dues::smaller_at` meets its contract: one comparison, both ways.
 use mathlib.Core.Path.{refl}
 use native.Mathlib.Omega.{arith}
 use borrow.Author.Tests.{lt-ltb, le-ltb}

@@ -1,4 +1,4 @@
--- `dues::soonest` meets its contract.
+-- `dues::soonest` meets its contract: at i the best of the guests before i is known, whatever guests the numbers decide for.
 use mathlib.Core.Path.{ap, _∙_}
 use mathlib.Core.Bool.{Bool, cond}
 use mathlib.Core.List.{List}

@@ -1,4 +1,4 @@
--- `renewal::guests_renewed` meets its contract.
+-- `renewal::guests_renewed` meets its contract: at i the first i guests are renewed.
 use Prim.Native.Nat.{_≤_, _-_}
 use Rattle.rules.specs.Limits.{guestPlaces}
 use Rattle.sound.specs.Testing.{guestsOf}

@@ -1,4 +1,4 @@
--- `walking::line_of` meets its contract.
+-- `walking::line_of` meets its contract: field by field.
 use mathlib.Core.Path.{refl}
 use borrow.Author.Needs.{needs}
 use Rattle.time.proofs.walking.line_of.Statement.{statement}

@@ -1,4 +1,4 @@
--- `walking::spares_left` meets its contract.
+-- `walking::spares_left` meets its contract: at i the spares from the head up to i stand at the front.
 use Prim.Native.Nat.{_≤_, _-_}
 use Rattle.time.proofs.Leaving.{Filled, filled-start, filled-more, filled-end}
 use Rattle.laws.proofs.Places.{length-mapped}

@@ -1,4 +1,4 @@
--- `walking::walk_of` meets its contract.
+-- `walking::walk_of` meets its contract: field by field, with the spares that are left at the front.
 use borrow.Author.Needs.{needs}
 use Rattle.time.proofs.walking.walk_of.Statement.{statement}
 use Rattle.time.proofs.walking.walk_of.Tie as tie
