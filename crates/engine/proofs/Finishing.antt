@@ -24,7 +24,7 @@ use Rattle.rules.specs.Steps.{but, insertSpare, finish, leave, done}
 use Rattle.promises.proofs.Facts.{sane-model}
 use Rattle.promises.proofs.Keeping.{entry-finish, length-insert}
 use Rattle.engine.proofs.Arriving.{idle-known, active-known}
-use Rattle.time.specs.Clocks.{listed}
+use Rattle.time.specs.Inner.{listed}
 use Rattle.time.proofs.Placing.{entryAt, placeAt, Here, spares-count, guest-inside, guest-here, step-packed, guest-stored}
 use Rattle.time.proofs.Rows.{gives-1, gives-2, past-2}
 

@@ -14,7 +14,7 @@ use Rattle.promises.specs.Spans.{Within}
 use Rattle.promises.proofs.Facts.{sane-model}
 use Rattle.promises.proofs.Refusing.{clear}
 use Rattle.promises.proofs.Spans.{span-positive}
-use Rattle.integrator.specs.Stretch.{WithinSpan}
+use Rattle.integrator.specs.Contracts.{WithinSpan}
 
 -- Ask went, so the state is sound, and the portion of a sound state has a tick left
 pub span-some : (s : State) (r : Asked) → AskedFor s r → numberOf (r .answer) ≡ 0 → WithinSpan 1 (r .next)

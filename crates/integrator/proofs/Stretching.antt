@@ -8,7 +8,7 @@ use Rattle.rules.specs.declared.Portion.{Portion}
 use Rattle.rules.specs.Calls.{portionOf}
 use Rattle.rules.specs.Steps.{Span, limited, endless, spanOf}
 use Rattle.promises.specs.Spans.{Within}
-use Rattle.integrator.specs.Stretch.{WithinSpan, Stops}
+use Rattle.integrator.specs.Contracts.{WithinSpan, Stops}
 
 -- the ticks of a stretch with so much room
 abbrev lastingOn : Span → ℕ → ℕ

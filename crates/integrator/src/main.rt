@@ -1,7 +1,7 @@
 // An integrator's loop, as a hypervisor would have it: ask who runs next, run it until its span ends or an event comes, ask again.
 ghost use mathlib.Core.Path.{_≡_};
 ghost use Prim.Native.Nat.{_+_, _≤_, _<_, min};
-ghost use Rattle.integrator.specs.Stretch.{WithinSpan, Stops};
+ghost use Rattle.integrator.specs.Contracts.{WithinSpan, Stops};
 use crate::events::Call;
 use crate::events::END;
 use crate::events::Event;

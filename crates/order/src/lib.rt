@@ -4,7 +4,7 @@ ghost use Prim.Native.Nat.{min};
 ghost use Rattle.rules.specs.Limits.{guestPlaces};
 ghost use Rattle.rules.specs.Model.{bitOf};
 ghost use Rattle.order.specs.Choice.{shown};
-ghost use Rattle.order.specs.Told.{OrderTold, MaskTold, OnesTold, LowestTold, ReadyTold};
+ghost use Rattle.order.specs.Contracts.{OrderTold, MaskTold, OnesTold, LowestTold, ReadyTold};
 use rules::GUEST_PLACES;
 use rules::Guest;
 use rules::Spare;

@@ -22,7 +22,7 @@ use Rattle.rules.specs.Steps.{picked, ownBudget, spareOf, runs, limited, Portio
 use Rattle.promises.specs.Spans.{Within}
 use Rattle.promises.proofs.Spans.{limited-same}
 use Rattle.portions.specs.declared.Charge.{Charge}
-use Rattle.portions.specs.Charges.{firstOf, removedBy, runCharge, chargeOf}
+use Rattle.portions.specs.Contracts.{firstOf, removedBy, runCharge, chargeOf}
 
 -- ---- what comes next
 

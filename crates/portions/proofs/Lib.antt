@@ -1,3 +1,3 @@
 -- Laws of one portion.
 pub mod Charging
-pub mod Told
+pub mod Unique

@@ -1,2 +1,2 @@
 -- What one portion is and charges.
-pub mod Charges
+pub mod Contracts

@@ -1,7 +1,7 @@
 // One portion: what comes next, and what so many ticks on it charge to whom.
 ghost use mathlib.Core.Path.{_≡_};
 ghost use Prim.Native.Nat.{min};
-ghost use Rattle.portions.specs.Charges.{removedBy, blank, runCharge, PortionTold, ChargeTold};
+ghost use Rattle.portions.specs.Contracts.{removedBy, blank, runCharge, PortionTold, ChargeTold};
 use order::Pick;
 use rules::Portion;
 use rules::Source;

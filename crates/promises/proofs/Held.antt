@@ -89,6 +89,7 @@ words-held =
       row-numbers = refl;
       second-decides = (refl, λ j l. let z : j ≡ 0 = omega arith in rw z refl);
       first-does-not = λ d. never (d .0) refl;
+      third-does-not = λ d. never refl (d .1 1 (omega arith));
       rise = refl;
       can-run = refl;
       runs-first = record { place = omega arith; is-active = refl; smallest = all-at-11; lowest = λ k below is. absurd (omega (arith, below)) };

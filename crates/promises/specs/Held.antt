@@ -60,17 +60,18 @@ pub record RunsHeld : Type 0 where
       (lentTicks 0 12 (advances 9 ∷ finishes 0 ∷ arrives 0 ∷ advances 1 ∷ []) sample ∷ ownTicks 0 12 (advances 9 ∷ finishes 0 ∷ arrives 0 ∷ advances 1 ∷ []) sample ∷ ownTicks 0 10 (advances 10 ∷ []) sample ∷ ownTicks 1 10 (advances 10 ∷ []) sample ∷ [])
       ≡ 8 ∷ 2 ∷ 2 ∷ 0 ∷ []
 
--- two rows, of which the second holds
-abbrev pub twoRows : List Row
-twoRows = false gives 3 ∷ true gives 5 ∷ []
+-- three rows, of which the second and the third hold
+abbrev pub threeRows : List Row
+threeRows = false gives 3 ∷ true gives 5 ∷ true gives 4 ∷ []
 
 -- the other words
 pub record WordsHeld : Type 0 where
   -- the rows by their places
-  pub conditions : (conditionAt 0 twoRows ∷ conditionAt 1 twoRows ∷ conditionAt 2 twoRows ∷ []) ≡ false ∷ true ∷ false ∷ []
-  pub row-numbers : (numberAt 0 twoRows ∷ numberAt 1 twoRows ∷ numberAt 2 twoRows ∷ []) ≡ 3 ∷ 5 ∷ 0 ∷ []
-  pub second-decides : Decides 1 twoRows
-  pub first-does-not : Decides 0 twoRows → ⊥
+  pub conditions : (conditionAt 0 threeRows ∷ conditionAt 1 threeRows ∷ conditionAt 2 threeRows ∷ conditionAt 3 threeRows ∷ []) ≡ false ∷ true ∷ true ∷ false ∷ []
+  pub row-numbers : (numberAt 0 threeRows ∷ numberAt 1 threeRows ∷ numberAt 2 threeRows ∷ numberAt 3 threeRows ∷ []) ≡ 3 ∷ 5 ∷ 4 ∷ 0 ∷ []
+  pub second-decides : Decides 1 threeRows
+  pub first-does-not : Decides 0 threeRows → ⊥
+  pub third-does-not : Decides 2 threeRows → ⊥
   -- numbers that rise from above 0, and some that do not
   pub rise : map (rises 0) ((1 ∷ 2 ∷ 4 ∷ []) ∷ (0 ∷ 1 ∷ []) ∷ (1 ∷ 1 ∷ []) ∷ (2 ∷ 1 ∷ []) ∷ []) ≡ true ∷ false ∷ false ∷ false ∷ []
   -- active, with budget left

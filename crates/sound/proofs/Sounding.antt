@@ -27,7 +27,7 @@ use Rattle.rules.specs.declared.Refusal.{Refusal}
 use Rattle.promises.proofs.Facts.{points, sane-model}
 use Rattle.promises.proofs.Outcomes.{refusal-counts}
 use Rattle.order.specs.Choice.{inUse}
-use Rattle.sound.specs.Testing.{guestsOf, guestHolds, sparePlaceHolds, placeTallies}
+use Rattle.sound.specs.Inner.{guestsOf, guestHolds, sparePlaceHolds, placeTallies}
 use Rattle.order.proofs.Choosing.{count-shown}
 
 -- ---- laws of tests and sums

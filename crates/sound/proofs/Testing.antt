@@ -18,7 +18,7 @@ use Rattle.rules.specs.Places.{guestOf, spareOf, noGuestPlace}
 use Rattle.rules.specs.Sound.{rising}
 use Rattle.rules.specs.Steps.{before}
 use Rattle.promises.proofs.Packing.{zip-at, zip-length}
-use Rattle.sound.specs.Testing.{guestsOf, guestHolds, tallySmall, placeTallies, spareFits, sparePlaceHolds}
+use Rattle.sound.specs.Inner.{guestsOf, guestHolds, tallySmall, placeTallies, spareFits, sparePlaceHolds}
 use Rattle.laws.specs.Lists.{every, total}
 use Rattle.laws.proofs.Cases.{and-both, and-intro, by-test, never}
 use Rattle.laws.proofs.Elements.{every-at}

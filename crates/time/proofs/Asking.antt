@@ -18,8 +18,8 @@ use Rattle.rules.specs.Sound.{sound}
 use Rattle.rules.specs.Steps.{renew, renewed, Pick, earliest, Portion, nothingToDo, portionFor, next, ask}
 use Rattle.promises.proofs.Facts.{points, guests-count}
 use Rattle.order.specs.Choice.{inUse}
-use Rattle.portions.specs.Charges.{firstOf}
-use Rattle.time.specs.Clocks.{placed}
+use Rattle.portions.specs.Contracts.{firstOf}
+use Rattle.time.specs.Inner.{placed}
 use Rattle.time.proofs.Placing.{spares-long}
 use Rattle.time.proofs.Rows.{gives-1, past-1, told-nothing}
 use Rattle.time.proofs.Turning.{earliest-in, portion-in}

@@ -19,7 +19,7 @@ use Rattle.rules.specs.Model.{Guest, maskOf}
 use Rattle.rules.specs.Places.{noGuestPlace}
 use Rattle.rules.specs.Steps.{earliest}
 use Rattle.order.proofs.Choosing.{lowest-first}
-use Rattle.time.specs.Dues.{never, dueAt, AllDue, Mirrors}
+use Rattle.time.specs.Inner.{never, dueAt, AllDue, Mirrors}
 
 -- ---- filled in
 

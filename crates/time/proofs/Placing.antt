@@ -22,7 +22,7 @@ use Rattle.rules.specs.Table.{entriesOf, noEntry}
 use Rattle.promises.proofs.Facts.{InRange, GuestGood, points, sane-model, packed-back, guests-count}
 use Rattle.promises.proofs.GoodTable.{Good, good-table}
 use Rattle.promises.proofs.Packing.{zip-at, guest-zero, spare-zero}
-use Rattle.time.specs.Clocks.{placed, listed}
+use Rattle.time.specs.Inner.{placed, listed}
 
 -- ---- any guests in places
 

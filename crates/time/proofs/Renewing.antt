@@ -17,8 +17,8 @@ use Rattle.rules.specs.Sound.{sound}
 use Rattle.rules.specs.Steps.{renew, renewed}
 use Rattle.rules.specs.Table.{noEntry}
 use Rattle.promises.proofs.Facts.{GuestGood, sane-model, guests-count}
-use Rattle.sound.specs.Testing.{guestsOf}
-use Rattle.time.specs.Clocks.{placed}
+use Rattle.sound.specs.Inner.{guestsOf}
+use Rattle.time.specs.Inner.{placed}
 use Rattle.time.proofs.Placing.{placed-changed, guests-back, table-good, Here, guest-inside, guest-here, guest-good}
 
 -- ---- one guest

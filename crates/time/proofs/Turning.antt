@@ -43,11 +43,9 @@ use Rattle.promises.proofs.Walks.{ticks-in-le, lines-more, ticks-more, ticks-en
 use Rattle.order.specs.Choice.{shown, inUse}
 use Rattle.order.proofs.Choosing.{lowest-first, in-use-few}
 use Rattle.portions.specs.declared.Charge.{Charge}
-use Rattle.portions.specs.Charges.{firstOf, chargeOf}
-use Rattle.time.specs.Charges.{ranPlace, spentPlace}
+use Rattle.portions.specs.Contracts.{firstOf, chargeOf}
+use Rattle.time.specs.Inner.{ranPlace, spentPlace, dueAt, AllDue, SoonestFrom, placed, listed, begunFrom, startedAt, laterBy, stateOf, walkOf}
 use Rattle.time.specs.declared.walking.Clock.{Clock}
-use Rattle.time.specs.Dues.{dueAt, AllDue, SoonestFrom}
-use Rattle.time.specs.Clocks.{placed, listed, begunFrom, startedAt, laterBy, stateOf, walkOf}
 use Rattle.portions.proofs.Charging.{lostBy, made, Fits, charge-fits}
 use Rattle.time.proofs.Mirroring.{mirrors, starts-first, starts-inside}
 use Rattle.time.proofs.Placing.{placed-at, placed-changed, table-good, packed-fields, spares-long, guest-here, guest-good}

@@ -1,7 +1,7 @@
 // What a charge takes from a guest and from a spare.
 ghost use mathlib.Core.Path.{_≡_};
 ghost use Prim.Native.Nat.{_+_, _≤_, _<_, _^_};
-ghost use Rattle.time.specs.Charges.{ranPlace, spentPlace};
+ghost use Rattle.time.specs.Inner.{ranPlace, spentPlace};
 use portions::Charge;
 use rules::Guest;
 use rules::Spare;

@@ -7,7 +7,7 @@ ghost use lib.Dec.{ltb};
 ghost use Rattle.rules.specs.Limits.{guestPlaces};
 ghost use Rattle.rules.specs.Steps.{earliest};
 ghost use Rattle.order.specs.Choice.{inUse, pickOf};
-ghost use Rattle.time.specs.Dues.{dueAt, AllDue, SoonestFrom};
+ghost use Rattle.time.specs.Inner.{dueAt, AllDue, SoonestFrom};
 use order::Pick;
 use rules::GUEST_PLACES;
 use rules::Guest;

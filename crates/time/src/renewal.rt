@@ -5,7 +5,7 @@ ghost use Prim.Native.Nat.{_+_, _<_, _^_};
 ghost use Rattle.rules.specs.Places.{guestOf, guestPlace, model};
 ghost use Rattle.rules.specs.Sound.{sound};
 ghost use Rattle.rules.specs.Steps.{renew, renewed};
-ghost use Rattle.time.specs.Clocks.{placed};
+ghost use Rattle.time.specs.Inner.{placed};
 use rules::Entry;
 use rules::GUEST_PLACES;
 use rules::Guest;

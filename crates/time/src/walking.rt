@@ -13,7 +13,7 @@ ghost use Rattle.rules.specs.Places.{model, noSparePlace};
 ghost use Rattle.rules.specs.Sound.{sound};
 ghost use Rattle.rules.specs.Steps.{useOf};
 ghost use Rattle.rules.specs.Walks.{declaredUse, linePlace, noLine, Walked};
-ghost use Rattle.time.specs.Clocks.{placed, begunFrom, startedAt, laterBy, walkOf};
+ghost use Rattle.time.specs.Inner.{placed, begunFrom, startedAt, laterBy, walkOf};
 use crate::charges::ran;
 use crate::charges::spent;
 use crate::dues::due_of;

@@ -5,7 +5,7 @@ use native.Mathlib.Omega.{arith}
 use Rattle.rules.specs.Model.{noGuest}
 use Rattle.sound.proofs.Testing.{guest-at, guests-long}
 use Rattle.laws.proofs.Loops.{Tested, tested-start, tested-more, tested-rest}
-use Rattle.sound.specs.Testing.{guestsOf, guestHolds}
+use Rattle.sound.specs.Inner.{guestsOf, guestHolds}
 use borrow.Author.Needs.{needs}
 use Rattle.sound.proofs.guests_hold.Statement.{statement}
 use Rattle.sound.proofs.guests_hold.Tie as tie

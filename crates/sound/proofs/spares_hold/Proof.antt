@@ -10,7 +10,7 @@ use Rattle.laws.proofs.Places.{length-mapped}
 use Rattle.laws.proofs.Loops.{Tested, tested-start, tested-more, tested-front}
 use Rattle.rules.specs.Places.{guestOf, noGuestPlace, noSparePlace}
 use Rattle.sound.proofs.Testing.{guest-at, guests-long, owner-asked}
-use Rattle.sound.specs.Testing.{guestsOf, sparePlaceHolds}
+use Rattle.sound.specs.Inner.{guestsOf, sparePlaceHolds}
 use borrow.Author.Needs.{needs}
 use Rattle.sound.proofs.spares_hold.Statement.{statement}
 use Rattle.sound.proofs.spares_hold.Tie as tie

@@ -6,7 +6,7 @@ use Rattle.laws.proofs.Loops.{Summed, summed-start, summed-more, summed-end}
 use Rattle.rules.specs.Limits.{lastTick}
 use Rattle.rules.specs.Places.{noGuestPlace}
 use Rattle.sound.proofs.Testing.{small-own, small-lent}
-use Rattle.sound.specs.Testing.{placeTallies}
+use Rattle.sound.specs.Inner.{placeTallies}
 use borrow.Author.Needs.{needs}
 use Rattle.sound.proofs.tallies_of.Statement.{statement}
 use Rattle.sound.proofs.tallies_of.Tie as tie

@@ -2,7 +2,7 @@
 use Prim.Native.Nat.{_≤_, _-_}
 use Rattle.laws.proofs.Loops.{Tested, tested-start, tested-more, tested-front}
 use Rattle.rules.specs.Places.{noGuestPlace}
-use Rattle.sound.specs.Testing.{tallySmall}
+use Rattle.sound.specs.Inner.{tallySmall}
 use borrow.Author.Needs.{needs}
 use Rattle.sound.proofs.tallies_small.Statement.{statement}
 use Rattle.sound.proofs.tallies_small.Tie as tie

@@ -1,7 +1,7 @@
 -- `renewal::guests_renewed` meets its contract: at i the first i guests are renewed.
 use Prim.Native.Nat.{_≤_, _-_}
 use Rattle.rules.specs.Limits.{guestPlaces}
-use Rattle.sound.specs.Testing.{guestsOf}
+use Rattle.sound.specs.Inner.{guestsOf}
 use Rattle.time.proofs.Renewing.{Renewing, in-places, renewing-first, renewing-fits, renewing-next, renewing-last}
 use borrow.Author.Needs.{needs}
 use Rattle.time.proofs.renewal.guests_renewed.Statement.{statement}

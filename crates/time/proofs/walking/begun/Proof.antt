@@ -1,7 +1,7 @@
 -- `walking::begun` meets its contract: with no tick to make, no guest is renewed.
 use mathlib.Core.Path.{ap, sym, _∙_}
 use Rattle.rules.specs.Model.{Model}
-use Rattle.time.specs.Clocks.{placed}
+use Rattle.time.specs.Inner.{placed}
 use Rattle.time.proofs.Placing.{guests-back}
 use Rattle.time.proofs.Turning.{begun-some}
 use borrow.Author.Needs.{needs}

@@ -1,7 +1,11 @@
--- Where a walk stands between two portions, and lists in their places.
+-- The contracts of time's own functions: what a charge takes, where a walk stands between two portions, and deadlines as plain numbers.
 use mathlib.Core.List.{List, map}
-use Prim.Native.Nat.{ℕ, zero, suc, _+_, _-_}
+use mathlib.Core.Path.{_≡_}
+use mathlib.Core.Bool.{cond}
+use Prim.Native.Nat.{ℕ, zero, suc, _+_, _-_, _≤_, _<_}
 use lib.Seq.{slice}
+use lib.Dec.{ltb, eqb}
+use lib.ListN.{length, getD, drop}
 use Rattle.laws.specs.Lists.{padded}
 use Rattle.rules.specs.declared.Guest.{Guest as GuestPlace}
 use Rattle.rules.specs.declared.Spare.{Spare as SparePlace}
@@ -12,9 +16,22 @@ use Rattle.rules.specs.declared.Walk.{Walk}
 use Rattle.rules.specs.Limits.{guestPlaces, sparePlaces}
 use Rattle.rules.specs.Model.{Guest, Spare, Model}
 use Rattle.rules.specs.Places.{guestPlace, sparePlace, noGuestPlace, noSparePlace}
-use Rattle.rules.specs.Steps.{renewed}
+use Rattle.rules.specs.Steps.{renewed, ready, earliest}
+use Rattle.order.specs.Choice.{shown, inUse, beats}
 use Rattle.portions.specs.declared.Charge.{Charge}
 use Rattle.time.specs.declared.walking.Clock.{Clock}
+
+-- ---- what is charged
+
+-- a guest in its place, after what is charged
+abbrev pub ranPlace : Charge → GuestPlace → GuestPlace
+ranPlace c g = record { jobs = g .jobs; left = g .left - c .own; deadline = g .deadline; own = g .own + c .own; lent = g .lent + c .lent }
+
+-- the first spare in its place, after it
+abbrev pub spentPlace : Charge → SparePlace → SparePlace
+spentPlace c x = record { deadline = x .deadline; owner = x .owner; capacity = x .capacity - c .spent }
+
+-- ---- where a walk stands
 
 -- guests in their places
 abbrev pub placed : List Guest → List GuestPlace
@@ -62,3 +79,26 @@ stateOf s guests spares h =
 abbrev pub walkOf : State → List GuestPlace → List SparePlace → List LinePlace → Clock → ℕ → Walk
 walkOf s guests spares lines h count =
     record { answer = Went; state = stateOf s guests spares h; left = h .left; count = count; lines = lines }
+
+-- ---- deadlines as plain numbers
+
+-- past every deadline of a sound state
+abbrev pub never : ℕ
+never = 18446744073709551615
+
+-- a guest's deadline where it is active
+abbrev pub dueAt : GuestPlace → ℕ
+dueAt g = cond (eqb (g .jobs) 0) never (g .deadline)
+
+-- every deadline comes before it
+abbrev pub AllDue : List GuestPlace → Type 0
+AllDue gs = (i : ℕ) → i < length gs → getD gs i noGuestPlace .deadline < never
+
+-- the numbers decide between any two guests as the guests do
+abbrev pub Mirrors : List ℕ → List GuestPlace → Type 0
+Mirrors ds gs = (i k : ℕ) → i < length gs → k < length gs → ltb (getD ds k 0) (getD ds i 0) ≡ beats (getD gs i noGuestPlace) (getD gs k noGuestPlace)
+
+-- step 2 of a tick from a number on, of whatever guests the numbers decide for
+abbrev pub SoonestFrom : List ℕ → ℕ → ℕ → ℕ → Type 0
+SoonestFrom ds from count r =
+    (gs : List GuestPlace) → Mirrors ds gs → count ≤ length gs → ready r (shown (getD gs r noGuestPlace)) ≡ earliest from (drop from (inUse count gs))

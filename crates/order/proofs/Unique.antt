@@ -4,7 +4,7 @@ use Rattle.rules.specs.Steps.{Pick, nobody, picked}
 use Rattle.order.specs.declared.Pick.{Pick as DeclaredPick}
 use Rattle.order.specs.declared.Pick.the-variants.{Nobody, Picked}
 use Rattle.order.specs.Choice.{pickOf}
-use Rattle.order.specs.Told.{OneAnswer}
+use Rattle.order.specs.Contracts.{OneAnswer}
 
 -- the code's pick for the rules' one
 back : Pick → DeclaredPick

@@ -1,7 +1,7 @@
 -- Any two answers that a predicate allows are equal.
 use mathlib.Core.Path.{sym, _∙_}
 use Rattle.promises.proofs.Outcomes.{answers-determined}
-use Rattle.portions.specs.Charges.{OneAnswer}
+use Rattle.portions.specs.Contracts.{OneAnswer}
 
 pub one-answer : OneAnswer
 one-answer =
