@@ -1,4 +1,5 @@
--- Numbers of bytes: a field is its first two bytes and the field behind them; a number that stands whole, and one that does not; the place behind some bytes. Assumes nothing.
+-- Numbers of bytes: a field is its first two bytes and the field behind them; a number that stands whole, and one that does not;
+-- the place behind some bytes. Assumes nothing.
 use mathlib.Core.Path.{_≡_}
 use mathlib.Core.List.{List}
 use Prim.Native.Nat.{ℕ, suc, _+_, _-_, _*_, _≤_, _<_, _^_}

@@ -2,6 +2,7 @@
 pub mod Asking
 pub mod Held
 pub mod Laws
+pub mod Locals
 pub mod Moving
 pub mod Told
 pub mod Walks

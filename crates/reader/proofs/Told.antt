@@ -17,5 +17,6 @@ one-answer =
     record {
       number = λ width bytes at a b p q. p .0 ∙ sym (q .0);
       entry = λ part at a b p q. pair-same (p .budget .0 ∙ sym (q .budget .0)) (p .period .0 ∙ sym (q .period .0));
-      trailer = λ image a b p q. trailer-same (p .frame .0 ∙ sym (q .frame .0)) (p .offset .0 ∙ sym (q .offset .0)) (p .count .0 ∙ sym (q .count .0)) (p .edition .0 ∙ sym (q .edition .0));
+      trailer = λ image a b p q. trailer-same (p .frame .0 ∙ sym (q .frame .0)) (p .offset .0 ∙ sym (q .offset .0))
+          (p .count .0 ∙ sym (q .count .0)) (p .edition .0 ∙ sym (q .edition .0));
     }

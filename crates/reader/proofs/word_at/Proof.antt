@@ -1,4 +1,5 @@
--- `reader::word_at` meets its contract. Where all four bytes stand there the two numbers of 2 bytes make it (`word-whole`); in the two other cases it reads as 0 (`number-out`). Assumes nothing.
+-- `reader::word_at` meets its contract. Where all four bytes stand there the two numbers of 2 bytes make it (`word-whole`);
+-- in the two other cases it reads as 0 (`number-out`). Assumes nothing.
 use native.Mathlib.Omega.{arith}
 use borrow.Author.Needs.{needs}
 use Rattle.reader.proofs.Laws.{number-out, word-whole}
@@ -30,7 +31,10 @@ add-result : tie.Need-add-result
 add-result c = search needs
 
 returns-3 : tie.Need-returns-3
-returns-3 c = (word-whole _ _ _ _ (omega arith) (c .before .half-at .ensures .0) (c .half-at2 .ensures .0), omega (arith, c .before .half-at .ensures .1, c .half-at2 .ensures .1))
+returns-3 c = (
+  word-whole _ _ _ _ (omega arith) (c .before .half-at .ensures .0) (c .half-at2 .ensures .0),
+  omega (arith, c .before .half-at .ensures .1, c .half-at2 .ensures .1),
+)
 
 pub word-at-spec : {M : Type 1} → statement M
 word-at-spec =

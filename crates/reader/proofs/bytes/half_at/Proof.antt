@@ -1,4 +1,5 @@
--- `reader::bytes::half_at` meets its contract. Where both bytes stand there they make the number (`half-whole`); in the two other cases it reads as 0 (`number-out`). Assumes nothing.
+-- `reader::bytes::half_at` meets its contract. Where both bytes stand there they make the number (`half-whole`);
+-- in the two other cases it reads as 0 (`number-out`). Assumes nothing.
 use native.Mathlib.Omega.{arith}
 use borrow.Author.Needs.{needs}
 use Rattle.reader.proofs.Laws.{number-out, half-whole}
@@ -36,7 +37,10 @@ add-result : tie.Need-add-result
 add-result c = search needs
 
 returns-3 : tie.Need-returns-3
-returns-3 c = (half-whole _ _ _ _ (omega arith) (c .before .before .wide .ensures .0) (c .wide2 .ensures .0), omega (arith, c .before .before .wide .ensures .1, c .wide2 .ensures .1))
+returns-3 c = (
+  half-whole _ _ _ _ (omega arith) (c .before .before .wide .ensures .0) (c .wide2 .ensures .0),
+  omega (arith, c .before .before .wide .ensures .1, c .wide2 .ensures .1),
+)
 
 pub half-at-spec : {M : Type 1} → statement M
 half-at-spec =
