@@ -136,12 +136,12 @@ module _ {M : Type 1} {𝓤 : URA M} {H : Heap 𝓤} {A : Atoms 𝓤} (W : Given
         hears W t tt (token 𝓤 κ q) usize (Number width r) (lasts asker.ended (κ, tt) (r, tt)) w (λ n e f.
         lands-number t (suc (suc (suc (2 * d)))) n w f (ap (λ x. x .1) s) (ap (λ x. x .5) s) $ move t (1 ∷ 0 ∷ []) $ go n e (f .1)))
 
-    -- the reader behind so many bytes
-    pub moves : K → (width : ℕ) → Triple 𝓤 (C k) (Past 𝓤 H A) → Holds (ltb width (2 ^ 64)) → Stand 𝓤 H A E Γ u (T′.mir erased) a c d
+    -- the reader behind as many bytes as the code says
+    pub moves : K → {width : ℕ} → Triple 𝓤 (C k) (Past 𝓤 H A) → Holds (ltb width (2 ^ 64)) → Stand 𝓤 H A E Γ u (T′.mir erased) a c d
         → ((u′ : Val) (r′ : Reader) → Moved r width r′ → Is (B (κ, tt)) r′ (u′ ∷ [])
         → Seq K W (‵ (Has κ r′ u′) ∷ token 𝓤 κ q ∷ own ∷ with 𝓤 H E A d u′ (with 𝓤 H E A c u Γ)) (runs C Λ E rest Q))
         → Seq K W (‵ (Has κ r u) ∷ token 𝓤 κ q ∷ own ∷ Γ) (runs C Λ E (passing k a c (int w64 width ∷ []) d rest) Q)
-    moves t width known small s go =
+    moves t {width} known small s go =
         copied t s $ passes-number W κ t r u width (lit< small) $
         calls-at t fm (Past 𝓤 H A) known (((κ, tt), (q, tt), tt, (r, (width, tt)), (u ∷ [], (vint w64 width ∷ [], tt))), tt)
         (and-then t (copies t (ap (λ x. x .4) s)) (and-then t (lit t small) (no-more t))) (λ u′.

@@ -84,7 +84,7 @@ module _ {M : Type 1} (𝓤 : URA M) (H : Heap 𝓤) (A : Atoms 𝓤) (W : Given
         pass1 ! (init ! 6 refl (tt, record { fits = fits })) $ pass0 ! $ move ! (1 ∷ []) $ fsplit ! $ move ! (1 ∷ []) $ drop ! $ move ! (1 ∷ 0 ∷ []) $
         -- the reader, and the numbers; [what the reader owns; the token; what s owns; _0; …]
         opens W κ ! fm s n (knows .opened) fits refl (λ u₁ r₁ m₁ is₁.
-        reads W κ fm r₁ u₁ is₁ ! 4 (knows .word) refl (λ t₁ e₁ f₁. moves W κ fm r₁ u₁ is₁ ! 4 (knows .past) tt refl (λ u₂ r₂ m₂ is₂.
+        reads W κ fm r₁ u₁ is₁ ! 4 (knows .word) refl (λ t₁ e₁ f₁. moves W κ fm r₁ u₁ is₁ ! (knows .past) tt refl (λ u₂ r₂ m₂ is₂.
         reads W κ fm r₂ u₂ is₂ ! 4 (knows .word) refl (λ t₂ e₂ f₂. drop ! $
         -- both; [the token; what s owns; _0; …]
         assigns ! (agg ! (and-then ! (copies ! refl) (and-then ! (copies ! refl) (no-more !)))) (from ! (stop !))

@@ -117,9 +117,9 @@ module _ {M : Type 1} (𝓤 : URA M) (H : Heap 𝓤) (A : Atoms 𝓤) (W : Given
         hears W ! tt (token 𝓤 κ q) usize (Starts s) (lasts place.ended (κ, tt) (s, tt)) u₀ (λ p e₀ f₀. lands-number ! 22 p u₀ f₀ refl refl $
         -- the reader there, and the numbers; [what the reader owns; the token; what s owns; _0; …]
         opens W κ ! fm s p (knows .opened) (f₀ .1) refl (λ u₁ r₁ m₁ is₁.
-        reads W κ fm r₁ u₁ is₁ ! 4 (knows .word) refl (λ t₁ e₁ f₁. moves W κ fm r₁ u₁ is₁ ! 4 (knows .past) tt refl (λ u₂ r₂ m₂ is₂.
-        reads W κ fm r₂ u₂ is₂ ! 4 (knows .word) refl (λ t₂ e₂ f₂. moves W κ fm r₂ u₂ is₂ ! 4 (knows .past) tt refl (λ u₃ r₃ m₃ is₃.
-        reads W κ fm r₃ u₃ is₃ ! 2 halved refl (λ t₃ e₃ f₃. moves W κ fm r₃ u₃ is₃ ! 2 (knows .past) tt refl (λ u₄ r₄ m₄ is₄.
+        reads W κ fm r₁ u₁ is₁ ! 4 (knows .word) refl (λ t₁ e₁ f₁. moves W κ fm r₁ u₁ is₁ ! (knows .past) tt refl (λ u₂ r₂ m₂ is₂.
+        reads W κ fm r₂ u₂ is₂ ! 4 (knows .word) refl (λ t₂ e₂ f₂. moves W κ fm r₂ u₂ is₂ ! (knows .past) tt refl (λ u₃ r₃ m₃ is₃.
+        reads W κ fm r₃ u₃ is₃ ! 2 halved refl (λ t₃ e₃ f₃. moves W κ fm r₃ u₃ is₃ ! (knows .past) tt refl (λ u₄ r₄ m₄ is₄.
         reads W κ fm r₄ u₄ is₄ ! 2 halved refl (λ t₄ e₄ f₄. drop ! $
         -- all four; [the token; what s owns; _0; …]
         assigns ! (agg ! (and-then ! (copies ! refl) (and-then ! (copies ! refl) (and-then ! (copies ! refl) (and-then ! (copies ! refl) (no-more !))))))
