@@ -3,6 +3,7 @@ ghost use Prim.Native.Nat.{_<_, _≤_};
 ghost use Rattle.rules.specs.Limits.{guestPlaces};
 use rules::Entry;
 use rules::GUEST_PLACES;
+use rules::SPARE_PLACES;
 use rules::State;
 use rules::Table;
 
@@ -12,7 +13,7 @@ const FRAME: u64 = 240;
 pub(crate) const BUDGET: u64 = 4;
 
 // With a place kept for one guest that is active or is to be.
-const MOST_SPARES: u64 = 63;
+const MOST_SPARES: u64 = SPARE_PLACES as u64 - 1;
 
 // The last guest of so many, within the places. It is the one that arrives or is done.
 pub(crate) fn last_guest(guests: u64) -> usize

@@ -1,14 +1,15 @@
--- `measure::digest::guests_mixed` is safe and ends: i stays within the 16 places.
+-- `measure::digest::guests_mixed` is safe and ends: i stays within the places.
 use Prim.Native.Nat.{_≤_, _-_}
 use borrow.Author.Needs.{needs}
+use Rattle.rules.specs.Limits.{guestPlaces}
 use Rattle.measure.proofs.digest.guests_mixed.Statement.{statement}
 use Rattle.measure.proofs.digest.guests_mixed.Tie as tie
 
 abbrev Inv-loop : tie.InvT-loop
-Inv-loop sum guests all₀ i₀ all i = i ≤ 16
+Inv-loop sum guests all₀ i₀ all i = i ≤ guestPlaces
 
 abbrev μ-loop : tie.MeasureT-loop
-μ-loop sum guests all₀ i₀ all i = 16 - i
+μ-loop sum guests all₀ i₀ all i = guestPlaces - i
 
 loop-holds : tie.Need-loop-holds Inv-loop μ-loop
 loop-holds c = search needs

@@ -1,14 +1,15 @@
--- `measure::digest::spares_mixed` is safe and ends: i stays within the 64 places.
+-- `measure::digest::spares_mixed` is safe and ends: i stays within the places.
 use Prim.Native.Nat.{_≤_, _-_}
 use borrow.Author.Needs.{needs}
+use Rattle.rules.specs.Limits.{sparePlaces}
 use Rattle.measure.proofs.digest.spares_mixed.Statement.{statement}
 use Rattle.measure.proofs.digest.spares_mixed.Tie as tie
 
 abbrev Inv-loop : tie.InvT-loop
-Inv-loop sum spares all₀ i₀ all i = i ≤ 64
+Inv-loop sum spares all₀ i₀ all i = i ≤ sparePlaces
 
 abbrev μ-loop : tie.MeasureT-loop
-μ-loop sum spares all₀ i₀ all i = 64 - i
+μ-loop sum spares all₀ i₀ all i = sparePlaces - i
 
 loop-holds : tie.Need-loop-holds Inv-loop μ-loop
 loop-holds c = search needs

@@ -1,13 +1,14 @@
--- `measure::setting::table_of` is safe and ends: the table keeps its 16 places, and each turn fills one.
+-- `measure::setting::table_of` is safe and ends: the table keeps its places, and each turn fills one.
 use Prim.Native.Nat.{_≤_, _+_, _-_}
 use lib.ListN.{length}
 use mathlib.Core.Path.{_≡_}
 use borrow.Author.Needs.{needs}
+use Rattle.rules.specs.Limits.{guestPlaces}
 use Rattle.measure.proofs.setting.table_of.Statement.{statement}
 use Rattle.measure.proofs.setting.table_of.Tie as tie
 
 abbrev Inv-loop : tie.InvT-loop
-Inv-loop last budget entries₀ i₀ entries i = (i ≤ last + 1) × (length entries ≡ 16)
+Inv-loop last budget entries₀ i₀ entries i = (i ≤ last + 1) × (length entries ≡ guestPlaces)
 
 abbrev μ-loop : tie.MeasureT-loop
 μ-loop last budget entries₀ i₀ entries i = last + 1 - i
