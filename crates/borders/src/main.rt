@@ -79,7 +79,7 @@ fn write_short_image() {
 fn write_unsound_state() {
     let mut state = fresh();
     state.now = 1;
-    let outcome = engine::arrive(state, 16);
+    let outcome = engine::arrive(state, GUEST_PLACES);
     let answer = outcome.answer;
     write_text(b"guest 16, state not sound:");
     write_answer(answer);

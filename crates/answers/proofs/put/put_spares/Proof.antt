@@ -1,16 +1,17 @@
--- `answers::put::put_spares` is safe and ends: a turn for each of the 64 places, and the buffer keeps its length.
+-- `answers::put::put_spares` is safe and ends: a turn for each of the places, and the buffer keeps its length.
 use Prim.Native.Nat.{_≤_, _-_}
 use mathlib.Core.Path.{_≡_}
 use lib.ListN.{length}
 use borrow.Author.Needs.{needs}
+use Rattle.rules.specs.Limits.{sparePlaces}
 use Rattle.answers.proofs.put.put_spares.Statement.{statement}
 use Rattle.answers.proofs.put.put_spares.Tie as tie
 
 abbrev Inv-loop : tie.InvT-loop
-Inv-loop buffer₀ filled spares at₀ i₀ buffer at i = (i ≤ 64) × (length buffer ≡ length buffer₀)
+Inv-loop buffer₀ filled spares at₀ i₀ buffer at i = (i ≤ sparePlaces) × (length buffer ≡ length buffer₀)
 
 abbrev μ-loop : tie.MeasureT-loop
-μ-loop buffer₀ filled spares at₀ i₀ buffer at i = 64 - i
+μ-loop buffer₀ filled spares at₀ i₀ buffer at i = sparePlaces - i
 
 loop-holds : tie.Need-loop-holds Inv-loop μ-loop
 loop-holds c = search needs

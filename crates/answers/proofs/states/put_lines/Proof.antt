@@ -2,15 +2,16 @@
 use Prim.Native.Nat.{_≤_, _-_}
 use mathlib.Core.Path.{_≡_}
 use lib.ListN.{length}
+use Rattle.rules.specs.Limits.{linePlaces}
 use borrow.Author.Needs.{needs}
 use Rattle.answers.proofs.states.put_lines.Statement.{statement}
 use Rattle.answers.proofs.states.put_lines.Tie as tie
 
 abbrev Inv-loop : tie.InvT-loop
-Inv-loop buffer₀ filled lines at₀ i₀ buffer at i = (i ≤ 64) × (length buffer ≡ length buffer₀)
+Inv-loop buffer₀ filled lines at₀ i₀ buffer at i = (i ≤ linePlaces) × (length buffer ≡ length buffer₀)
 
 abbrev μ-loop : tie.MeasureT-loop
-μ-loop buffer₀ filled lines at₀ i₀ buffer at i = 64 - i
+μ-loop buffer₀ filled lines at₀ i₀ buffer at i = linePlaces - i
 
 loop-holds : tie.Need-loop-holds Inv-loop μ-loop
 loop-holds c = search needs

@@ -1,16 +1,17 @@
--- `answers::taken::entries_in` is safe and ends: the array keeps its 16 places, and each turn fills one.
+-- `answers::taken::entries_in` is safe and ends: the array keeps its places, and each turn fills one.
 use Prim.Native.Nat.{_≤_, _-_}
 use mathlib.Core.Path.{_≡_}
 use lib.ListN.{length}
 use borrow.Author.Needs.{needs}
+use Rattle.rules.specs.Limits.{guestPlaces}
 use Rattle.answers.proofs.taken.entries_in.Statement.{statement}
 use Rattle.answers.proofs.taken.entries_in.Tie as tie
 
 abbrev Inv-loop : tie.InvT-loop
-Inv-loop bytes entries₀ i₀ entries i = (i ≤ 16) × (length entries ≡ 16)
+Inv-loop bytes entries₀ i₀ entries i = (i ≤ guestPlaces) × (length entries ≡ guestPlaces)
 
 abbrev μ-loop : tie.MeasureT-loop
-μ-loop bytes entries₀ i₀ entries i = 16 - i
+μ-loop bytes entries₀ i₀ entries i = guestPlaces - i
 
 loop-holds : tie.Need-loop-holds Inv-loop μ-loop
 loop-holds c = search needs

@@ -1,16 +1,17 @@
--- `answers::taken::guests_in` is safe and ends: the array keeps its 16 places, and each turn fills one.
+-- `answers::taken::guests_in` is safe and ends: the array keeps its places, and each turn fills one.
 use Prim.Native.Nat.{_≤_, _-_}
 use mathlib.Core.Path.{_≡_}
 use lib.ListN.{length}
 use borrow.Author.Needs.{needs}
+use Rattle.rules.specs.Limits.{guestPlaces}
 use Rattle.answers.proofs.taken.guests_in.Statement.{statement}
 use Rattle.answers.proofs.taken.guests_in.Tie as tie
 
 abbrev Inv-loop : tie.InvT-loop
-Inv-loop bytes guests₀ i₀ guests i = (i ≤ 16) × (length guests ≡ 16)
+Inv-loop bytes guests₀ i₀ guests i = (i ≤ guestPlaces) × (length guests ≡ guestPlaces)
 
 abbrev μ-loop : tie.MeasureT-loop
-μ-loop bytes guests₀ i₀ guests i = 16 - i
+μ-loop bytes guests₀ i₀ guests i = guestPlaces - i
 
 loop-holds : tie.Need-loop-holds Inv-loop μ-loop
 loop-holds c = search needs

@@ -1,16 +1,17 @@
--- `answers::taken::spares_in` is safe and ends: the array keeps its 64 places, and each turn fills one.
+-- `answers::taken::spares_in` is safe and ends: the array keeps its places, and each turn fills one.
 use Prim.Native.Nat.{_≤_, _-_}
 use mathlib.Core.Path.{_≡_}
 use lib.ListN.{length}
 use borrow.Author.Needs.{needs}
+use Rattle.rules.specs.Limits.{sparePlaces}
 use Rattle.answers.proofs.taken.spares_in.Statement.{statement}
 use Rattle.answers.proofs.taken.spares_in.Tie as tie
 
 abbrev Inv-loop : tie.InvT-loop
-Inv-loop bytes spares₀ i₀ spares i = (i ≤ 64) × (length spares ≡ 64)
+Inv-loop bytes spares₀ i₀ spares i = (i ≤ sparePlaces) × (length spares ≡ sparePlaces)
 
 abbrev μ-loop : tie.MeasureT-loop
-μ-loop bytes spares₀ i₀ spares i = 64 - i
+μ-loop bytes spares₀ i₀ spares i = sparePlaces - i
 
 loop-holds : tie.Need-loop-holds Inv-loop μ-loop
 loop-holds c = search needs
