@@ -28,7 +28,7 @@ use Rattle.promises.proofs.GoodTable.{not-outside}
 use Rattle.promises.proofs.Images.{entries-in-long, readable}
 use Rattle.promises.proofs.Outcomes.{one-outcome, refusal-counts, kept-back}
 use Rattle.reader.specs.declared.Trailer.{Trailer}
-use Rattle.reader.specs.Numbers.{numberAt, behindOf, TrailerRead}
+use Rattle.reader.specs.Contracts.{numberAt, behindOf, TrailerRead}
 use Rattle.image.specs.Contracts.{EntriesPart}
 use Rattle.image.specs.Inner.{Whole, Tested}
 use Rattle.reader.proofs.Laws.{number-in, behind-in}

@@ -37,7 +37,7 @@ use denote.Triple.Walked.{says, Stays, stay-none, walkOf, goes-none, ends-at}
 use denote.Exit.{yes}
 use denote.Triple.Clauses.{closing, lasts}
 use Rattle.reader.specs.declared.reader.Reader.{Reader}
-use Rattle.reader.specs.Numbers.{NumberRead}
+use Rattle.reader.specs.Contracts.{NumberRead}
 use Rattle.reader.proofs.Locals.{allocates, copies, leaves}
 use Rattle.reader.proofs.Walks.{stated, Stated, walk-spec, Number, B, Has, reader-vals, reader-tells, passed, valueOf, fields, token, lends, hears}
 use Rattle.reader.proofs.reader.Reader.Laws as T′

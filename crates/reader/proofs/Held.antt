@@ -1,7 +1,7 @@
 -- The rows hold: by computing, and by the size of each number.
 use mathlib.Core.Path.{refl}
 use native.Mathlib.Omega.{arith}
-use Rattle.reader.specs.Numbers.{numberAt, behindOf}
+use Rattle.reader.specs.Contracts.{numberAt, behindOf}
 use Rattle.reader.specs.Held.{NumbersHeld}
 
 pub numbers-held : NumbersHeld

@@ -9,7 +9,7 @@ use borrow.Author.Tests.{le-leb, lt-leb}
 use lib.ListN.{length, getD}
 use lib.Seq.{drop-cons}
 use Rattle.rules.specs.Image.{field}
-use Rattle.reader.specs.Numbers.{numberAt, behindOf}
+use Rattle.reader.specs.Contracts.{numberAt, behindOf}
 
 module _ (bytes : List ℕ) where
   -- the one law over the bytes: the first two, and the field behind them

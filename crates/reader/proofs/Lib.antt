@@ -4,5 +4,5 @@ pub mod Held
 pub mod Laws
 pub mod Locals
 pub mod Moving
-pub mod Told
+pub mod Unique
 pub mod Walks

@@ -26,7 +26,7 @@ use denote.Triple.Statement.{Contract, Triple}
 use denote.Triple.Call.{calls-at}
 use denote.Triple.Table.{cited}
 use denote.Triple.Clauses.{lasts}
-use Rattle.reader.specs.Numbers.{numberAt, behindOf, NumberRead}
+use Rattle.reader.specs.Contracts.{numberAt, behindOf, NumberRead}
 use Rattle.reader.specs.declared.reader.Reader.{Reader}
 use Rattle.reader.proofs.Laws.{behind-in}
 use Rattle.reader.proofs.Locals.{cell, room, at, with, copies, fitting, lands-number}

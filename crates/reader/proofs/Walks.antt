@@ -38,7 +38,7 @@ use denote.Triple.Spec.{Meets, tripleOf}
 use denote.Triple.Table.{entered}
 use denote.Triple.Clauses.{Clauses, Ended, closing}
 use denote.Triple.Walked.{Stays, AllGo, walkOf, walked, walk-meets}
-use Rattle.reader.specs.Numbers.{behindOf, NumberRead}
+use Rattle.reader.specs.Contracts.{behindOf, NumberRead}
 use Rattle.reader.specs.declared.reader.Reader.{Reader}
 use Rattle.reader.proofs.reader.Reader as T
 use Rattle.reader.proofs.reader.Reader.Laws as T′

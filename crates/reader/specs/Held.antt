@@ -4,7 +4,7 @@ use mathlib.Core.List.{List, [], _∷_}
 use Prim.Native.Nat.{ℕ, _<_}
 use Rattle.reader.specs.declared.Pair.{Pair}
 use Rattle.reader.specs.declared.Trailer.{Trailer}
-use Rattle.reader.specs.Numbers.{numberAt, behindOf, NumberRead, EntryRead, TrailerRead}
+use Rattle.reader.specs.Contracts.{numberAt, behindOf, NumberRead, EntryRead, TrailerRead}
 
 -- two bytes, H = 67,305,985, offset 134,678,021, n = 2,569, edition 3,083
 abbrev pub twelve : List ℕ

@@ -1,7 +1,7 @@
 // Little-endian numbers of a slice of bytes.
 ghost use mathlib.Core.Path.{_≡_};
 ghost use Prim.Native.Nat.{_<_, _^_};
-ghost use Rattle.reader.specs.Numbers.{NumberRead};
+ghost use Rattle.reader.specs.Contracts.{NumberRead};
 
 // A byte as a number: the bound stands in the contract, so that no caller proves a cast.
 fn wide(byte: u8) -> usize

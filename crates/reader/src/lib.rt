@@ -1,5 +1,5 @@
 // Numbers of an image and of its trailer, for every image and every place.
-ghost use Rattle.reader.specs.Numbers.{NumberRead, EntryRead, TrailerRead};
+ghost use Rattle.reader.specs.Contracts.{NumberRead, EntryRead, TrailerRead};
 use crate::bytes::half_at;
 use crate::reader::half;
 use crate::reader::open;

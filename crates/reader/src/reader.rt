@@ -2,7 +2,7 @@
 ghost use mathlib.Core.Path.{_≡_};
 ghost use Prim.Native.Nat.{_+_, _<_, _^_};
 ghost use Rattle.rules.specs.Image.{trailerAt};
-ghost use Rattle.reader.specs.Numbers.{behindOf, NumberRead};
+ghost use Rattle.reader.specs.Contracts.{behindOf, NumberRead};
 use crate::bytes::half_at;
 use crate::word_at;
 

@@ -29,7 +29,7 @@ use denote.Struct.Rest.{own-shut}
 use denote.Triple.Entry.{Args, Vals, Res, onEntry}
 use denote.Triple.Walked.{says, Stays, stay-none, stay-none-slice, walkOf, goes-none, goes-none-slice, ends-at}
 use denote.Exit.{yes}
-use Rattle.reader.specs.Numbers.{EntryRead}
+use Rattle.reader.specs.Contracts.{EntryRead}
 use Rattle.reader.specs.declared.reader.Reader.{Reader}
 use Rattle.reader.specs.declared.Pair.{Pair}
 use Rattle.reader.proofs.Locals.{allocates, copies, leaves}

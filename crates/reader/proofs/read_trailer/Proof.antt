@@ -34,7 +34,7 @@ use denote.Triple.Walked.{says, Stays, stay-none-slice, walkOf, goes-none-slice,
 use denote.Exit.{yes}
 use denote.Triple.Clauses.{lasts}
 use Rattle.rules.specs.Image.{trailerAt}
-use Rattle.reader.specs.Numbers.{TrailerRead}
+use Rattle.reader.specs.Contracts.{TrailerRead}
 use Rattle.reader.specs.declared.reader.Reader.{Reader}
 use Rattle.reader.specs.declared.Trailer.{Trailer}
 use Rattle.reader.proofs.Locals.{allocates, copies, lands-number, leaves}

@@ -33,7 +33,7 @@ use denote.Triple.Table.{cited}
 use denote.Triple.Walked.{says, Stays, stay-none, walkOf, goes-none, ends-at}
 use denote.Exit.{yes}
 use denote.Triple.Clauses.{lasts}
-use Rattle.reader.specs.Numbers.{behindOf}
+use Rattle.reader.specs.Contracts.{behindOf}
 use Rattle.reader.specs.declared.reader.Reader.{Reader}
 use Rattle.reader.proofs.Locals.{allocates, copies, lands-number, leaves}
 use Rattle.reader.proofs.Walks.{stated, Stated, walk-spec, Moved, B, Has, reader-vals, reader-tells, passed, valueOf, token, twice}

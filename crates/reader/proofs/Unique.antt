@@ -3,7 +3,7 @@ use mathlib.Core.Path.{_≡_, refl, sym, _∙_}
 use Prim.Native.Nat.{ℕ}
 use Rattle.reader.specs.declared.Pair.{Pair}
 use Rattle.reader.specs.declared.Trailer.{Trailer}
-use Rattle.reader.specs.Numbers.{OneAnswer}
+use Rattle.reader.specs.Contracts.{OneAnswer}
 
 trailer-same : {f g o p c d e h : ℕ} → f ≡ g → o ≡ p → c ≡ d → e ≡ h
     → _≡_ {A = Trailer} (record { frame = f; offset = o; count = c; edition = e }) (record { frame = g; offset = p; count = d; edition = h })
