@@ -10,7 +10,7 @@ use lib.ListN.{length, getD, drop, length-drop}
 use lib.Seq.{drop-cons, getD-drop}
 use borrow.Author.Tests.{ne-eqb}
 use Rattle.script.specs.declared.Number.{Number}
-use Rattle.text.specs.declared.Line.the-variants.{Frame, Guest, Arrive, Done, Advance, Malformed}
+use Rattle.text.specs.declared.Line.the-variants.{Guest, Malformed}
 use Rattle.text.specs.Numbers.{Got, noNumber, got, numberAt}
 use Rattle.text.specs.Script.{ends, ended, lastAt, guestEnd, guestLine, lineWith, oneLine, lineOf}
 use Rattle.script.specs.Parts.{gotIn}
@@ -71,17 +71,9 @@ module _ (l bs : List ℕ) (n : Number) (e : gotIn l n ≡ numberAt bs) where
 -- ---- a line with one number
 
 module _ (letter value : ℕ) where
-  pub with-frame : letter ≡ 70 → Frame value ≡ lineWith letter value
-  with-frame e = rw e
-
-  pub with-arrive : letter ≡ 65 → Arrive value ≡ lineWith letter value
-  with-arrive e = rw e
-
-  pub with-done : letter ≡ 68 → Done value ≡ lineWith letter value
-  with-done e = rw e
-
-  pub with-advance : letter ≡ 82 → Advance value ≡ lineWith letter value
-  with-advance e = rw e
+  -- a letter that is known
+  pub with-letter : (n : ℕ) → letter ≡ n → lineWith n value ≡ lineWith letter value
+  with-letter n e = rw e
 
   pub with-none : (letter ≡ 70 → ⊥) → (letter ≡ 65 → ⊥) → (letter ≡ 68 → ⊥) → (letter ≡ 82 → ⊥) → Malformed ≡ lineWith letter value
   with-none a b c d = rw (ne-eqb letter 70 a, ne-eqb letter 65 b, ne-eqb letter 68 c, ne-eqb letter 82 d)

@@ -1,20 +1,20 @@
 -- `script::line_with` meets its contract.
-use Rattle.script.proofs.Lines.{with-frame, with-arrive, with-done, with-advance, with-none}
+use Rattle.script.proofs.Lines.{with-letter, with-none}
 use borrow.Author.Needs.{needs}
 use Rattle.script.proofs.line_with.Statement.{statement}
 use Rattle.script.proofs.line_with.Tie as tie
 
 returns : tie.Need-returns
-returns c = with-frame (c .before .args .letter) (c .before .args .value) (search needs)
+returns c = with-letter (c .before .args .letter) (c .before .args .value) 70 (search needs)
 
 returns-2 : tie.Need-returns-2
-returns-2 c = with-arrive (c .before .args .letter) (c .before .args .value) (search needs)
+returns-2 c = with-letter (c .before .args .letter) (c .before .args .value) 65 (search needs)
 
 returns-3 : tie.Need-returns-3
-returns-3 c = with-done (c .before .args .letter) (c .before .args .value) (search needs)
+returns-3 c = with-letter (c .before .args .letter) (c .before .args .value) 68 (search needs)
 
 returns-4 : tie.Need-returns-4
-returns-4 c = with-advance (c .before .args .letter) (c .before .args .value) (search needs)
+returns-4 c = with-letter (c .before .args .letter) (c .before .args .value) 82 (search needs)
 
 returns-5 : tie.Need-returns-5
 returns-5 c = with-none (c .before .args .letter) (c .before .args .value) (search needs) (search needs) (search needs) (search needs)
