@@ -1,9 +1,11 @@
 -- "The program and its listing": the whole output as one definition over the bytes of the input, in the order of the checks.
 use mathlib.Core.Bool.{cond}
 use mathlib.Core.List.{List, [], _∷_, _++_, map}
+use mathlib.Core.Option.{Option, none, some}
 use Prim.Native.Nat.{ℕ, zero, suc, min}
 use lib.Dec.{ltb, eqb}
 use lib.ListN.{length, set, replicate}
+use Rattle.rules.specs.declared.Entry.{Entry}
 use Rattle.rules.specs.declared.Table.{Table}
 use Rattle.rules.specs.declared.State.{State}
 use Rattle.rules.specs.declared.Line.{Line as LinePlace}
@@ -14,8 +16,10 @@ use Rattle.rules.specs.Places.{freshState}
 use Rattle.rules.specs.Calls.{Call, arrives, finishes, advances, numberGiven, stateAfter}
 use Rattle.rules.specs.Lines.{linesOf}
 use Rattle.rules.specs.Walks.{linePlace}
+use Rattle.text.specs.declared.Call.{Call as LineCall}
+use Rattle.text.specs.declared.Call.the-variants.{Arrive, Done, Advance}
 use Rattle.text.specs.declared.Line.{Line}
-use Rattle.text.specs.declared.Line.the-variants.{Frame, Guest, Arrive, Done, Advance, Malformed}
+use Rattle.text.specs.declared.Line.the-variants.{Frame, Guest, Command, Malformed}
 use Rattle.text.specs.Script.{malformed, lineOf}
 use Rattle.text.specs.Lines.{portionBytes, refusalBytes, endBytes}
 
@@ -35,6 +39,40 @@ linesIn (b ∷ bs) = cond (eqb b 10) ((b ∷ []) ∷ linesIn bs) (onto b (linesI
 unfoldable pub asked : List ℕ → List Line
 unfolding linesIn
 asked input = map lineOf (linesIn input)
+
+-- ---- the line that may stand in a place
+
+-- "`F h` is the first line": its frame, or none of another line
+abbrev pub frameIn : Line → Option ℕ
+frameIn (Frame h) = some h
+frameIn (Guest q t) = none
+frameIn (Command c) = none
+frameIn Malformed = none
+
+-- "`G q t` lines follow": its guest
+abbrev pub guestIn : Line → Option Entry
+guestIn (Guest q t) = some (record { budget = q; period = t })
+guestIn (Frame h) = none
+guestIn (Command c) = none
+guestIn Malformed = none
+
+-- "then any of `A i` (arrive), `D i` (done), `R k` (advance)": its call
+abbrev pub commandIn : Line → Option LineCall
+commandIn (Command c) = some c
+commandIn (Frame h) = none
+commandIn (Guest q t) = none
+commandIn Malformed = none
+
+-- f of what the line gives, or x where it may not stand there
+abbrev pub given : {A B : Type 0} → Option A → (A → B) → B → B
+given (some a) f x = f a
+given none f x = x
+
+-- the call of the library that a line names
+abbrev pub callOf : LineCall → Call
+callOf (Arrive i) = arrives i
+callOf (Done i) = finishes i
+callOf (Advance k) = advances k
 
 -- ---- what a call prints
 
@@ -59,12 +97,7 @@ printed c s = refusalIn (numberGiven c s) ++ portionsBytes (map linePlace (lines
 unfoldable pub commands : State → List Line → List ℕ
 unfolding printed
 commands s [] = endBytes (s .now)
-commands s (Arrive i ∷ ls) = printed (arrives i) s ++ commands (stateAfter (arrives i) s) ls
-commands s (Done i ∷ ls) = printed (finishes i) s ++ commands (stateAfter (finishes i) s) ls
-commands s (Advance k ∷ ls) = printed (advances k) s ++ commands (stateAfter (advances k) s) ls
-commands s (Frame h ∷ ls) = refusalBytes malformed
-commands s (Guest q t ∷ ls) = refusalBytes malformed
-commands s (Malformed ∷ ls) = refusalBytes malformed
+commands s (l ∷ ls) = given (commandIn l) (λ c. printed (callOf c) s ++ commands (stateAfter (callOf c) s) ls) (refusalBytes malformed)
 
 -- ---- "`F h` is the first line, `G q t` lines follow"
 
@@ -73,12 +106,12 @@ abbrev pub framed : ℕ → Table
 framed h = record { frame = h; count = 0; entries = replicate guestPlaces noEntry }
 
 -- one guest more; "too many of them is refusal 10": those past the places are counted as one
-abbrev pub withGuest : ℕ → ℕ → Table → Table
-withGuest q t table =
+abbrev pub withGuest : Entry → Table → Table
+withGuest guest table =
     record {
       frame = table .frame;
       count = min (suc (table .count)) (suc guestPlaces);
-      entries = set (table .entries) (table .count) (record { budget = q; period = t });
+      entries = set (table .entries) (table .count) guest;
     }
 
 -- "Refusals 10 and 12 to 14 .. print `! number` and stop the program"
@@ -95,23 +128,13 @@ checked table ls = checkedBy (first (tableRows table)) table ls
 unfoldable pub guests : Table → List Line → List ℕ
 unfolding checked
 guests table [] = checked table []
-guests table (Guest q t ∷ ls) = guests (withGuest q t table) ls
-guests table (Frame h ∷ ls) = checked table (Frame h ∷ ls)
-guests table (Arrive i ∷ ls) = checked table (Arrive i ∷ ls)
-guests table (Done i ∷ ls) = checked table (Done i ∷ ls)
-guests table (Advance k ∷ ls) = checked table (Advance k ∷ ls)
-guests table (Malformed ∷ ls) = checked table (Malformed ∷ ls)
+guests table (l ∷ ls) = given (guestIn l) (λ guest. guests (withGuest guest table) ls) (checked table (l ∷ ls))
 
 -- "a missing `F` line (so also empty input)" is 16
 unfoldable pub listed : List Line → List ℕ
 unfolding guests
 listed [] = refusalBytes malformed
-listed (Frame h ∷ ls) = guests (framed h) ls
-listed (Guest q t ∷ ls) = refusalBytes malformed
-listed (Arrive i ∷ ls) = refusalBytes malformed
-listed (Done i ∷ ls) = refusalBytes malformed
-listed (Advance k ∷ ls) = refusalBytes malformed
-listed (Malformed ∷ ls) = refusalBytes malformed
+listed (l ∷ ls) = given (frameIn l) (λ h. guests (framed h) ls) (refusalBytes malformed)
 
 -- ---- the whole
 

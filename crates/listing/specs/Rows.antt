@@ -119,10 +119,10 @@ pub record StepsStop : Type 0 where
 -- the table that the lines make: each guest in the next place, and those past the places counted as one
 pub record TablesHold : Type 0 where
   pub noGuestYet : framed 8 ≡ record { frame = 8; count = 0; entries = replicate 16 noGuest }
-  pub firstGuest : withGuest 3 4 (framed 8) ≡ record { frame = 8; count = 1; entries = entry 3 4 ∷ replicate 15 noGuest }
-  pub secondGuest : withGuest 2 8 (withGuest 3 4 (framed 8)) ≡ record { frame = 8; count = 2; entries = entry 3 4 ∷ entry 2 8 ∷ replicate 14 noGuest }
-  pub seventeenth : withGuest 2 8 (record { frame = 8; count = 16; entries = replicate 16 (entry 1 1) }) ≡ record { frame = 8; count = 17; entries = replicate 16 (entry 1 1) }
-  pub eighteenth : withGuest 2 8 (record { frame = 8; count = 17; entries = replicate 16 (entry 1 1) }) ≡ record { frame = 8; count = 17; entries = replicate 16 (entry 1 1) }
+  pub firstGuest : withGuest (entry 3 4) (framed 8) ≡ record { frame = 8; count = 1; entries = entry 3 4 ∷ replicate 15 noGuest }
+  pub secondGuest : withGuest (entry 2 8) (withGuest (entry 3 4) (framed 8)) ≡ record { frame = 8; count = 2; entries = entry 3 4 ∷ entry 2 8 ∷ replicate 14 noGuest }
+  pub seventeenth : withGuest (entry 2 8) (record { frame = 8; count = 16; entries = replicate 16 (entry 1 1) }) ≡ record { frame = 8; count = 17; entries = replicate 16 (entry 1 1) }
+  pub eighteenth : withGuest (entry 2 8) (record { frame = 8; count = 17; entries = replicate 16 (entry 1 1) }) ≡ record { frame = 8; count = 17; entries = replicate 16 (entry 1 1) }
 
 -- "at most 65,536 bytes", for every input
 pub record StepBound : Type 0 where

@@ -14,15 +14,16 @@ use Rattle.rules.specs.Table.{tableRows, noTable}
 use Rattle.rules.specs.Places.{freshState, noState}
 use Rattle.rules.specs.Calls.{Call, arrives, finishes, advances, numberGiven, stateAfter}
 use Rattle.rules.specs.Walks.{linePlace, walkLines, walkState, walkLeft}
+use Rattle.text.specs.declared.Call.{Call as LineCall}
+use Rattle.text.specs.declared.Call.the-variants.{Arrive, Done, Advance}
 use Rattle.text.specs.declared.Line.{Line}
-use Rattle.text.specs.declared.Line.the-variants.{Frame, Guest, Arrive, Done, Advance, Malformed}
 use Rattle.text.specs.Script.{malformed, lineOf}
 use Rattle.text.specs.Lines.{refusalBytes, endBytes, lineRoom, hasRoom}
 use Rattle.listing.specs.declared.Stage.{Stage}
 use Rattle.listing.specs.declared.Stage.the-variants.{Frames, Guests, Commands, Over}
 use Rattle.listing.specs.declared.Held.{Held}
 use Rattle.listing.specs.declared.Stepped.{Stepped}
-use Rattle.listing.specs.Listing.{refusalIn, portionsBytes, framed, withGuest, mostInput, listingOf}
+use Rattle.listing.specs.Listing.{frameIn, guestIn, commandIn, given, refusalIn, portionsBytes, framed, withGuest, mostInput, listingOf}
 
 -- ---- the line that comes next
 
@@ -67,12 +68,7 @@ withTable at table state = record { at = at; stage = Guests; table = table; stat
 
 -- the `F` line
 abbrev pub frameLine : Line → ℕ → Held → Step
-frameLine (Frame f) end h = step [] (withTable end (framed f) (h .state))
-frameLine (Guest q t) end h = stops malformed h
-frameLine (Arrive i) end h = stops malformed h
-frameLine (Done i) end h = stops malformed h
-frameLine (Advance k) end h = stops malformed h
-frameLine Malformed end h = stops malformed h
+frameLine l end h = given (frameIn l) (λ f. step [] (withTable end (framed f) (h .state))) (stops malformed h)
 
 -- commands come next: the place of the next one, the table, the state, and the ticks that are left
 abbrev pub goingOn : ℕ → Table → State → ℕ → Held
@@ -85,12 +81,8 @@ checks (suc n) h = stops (suc n) h
 
 -- a `G` line, or the first line that is none
 abbrev pub guestLine : Line → ℕ → Held → Step
-guestLine (Guest q t) end h = step [] (withTable end (withGuest q t (h .table)) (h .state))
-guestLine (Frame f) end h = checks (first (tableRows (h .table))) h
-guestLine (Arrive i) end h = checks (first (tableRows (h .table))) h
-guestLine (Done i) end h = checks (first (tableRows (h .table))) h
-guestLine (Advance k) end h = checks (first (tableRows (h .table))) h
-guestLine Malformed end h = checks (first (tableRows (h .table))) h
+guestLine l end h =
+    given (guestIn l) (λ guest. step [] (withTable end (withGuest guest (h .table)) (h .state))) (checks (first (tableRows (h .table))) h)
 
 -- an arrival or a completion
 abbrev pub calls : Call → ℕ → Held → Step
@@ -102,14 +94,15 @@ walks k end h =
     step (refusalIn (numberGiven (advances k) (h .state)) ++ portionsBytes (map linePlace (walkLines k (h .state))))
     (goingOn end (h .table) (walkState k (h .state)) (walkLeft k (h .state)))
 
+-- the call that a line names: an advance may take several steps
+abbrev pub carriesOut : LineCall → ℕ → Held → Step
+carriesOut (Arrive i) end h = calls (arrives i) end h
+carriesOut (Done i) end h = calls (finishes i) end h
+carriesOut (Advance k) end h = walks k end h
+
 -- a command
 abbrev pub commandLine : Line → ℕ → Held → Step
-commandLine (Arrive i) end h = calls (arrives i) end h
-commandLine (Done i) end h = calls (finishes i) end h
-commandLine (Advance k) end h = walks k end h
-commandLine (Frame f) end h = stops malformed h
-commandLine (Guest q t) end h = stops malformed h
-commandLine Malformed end h = stops malformed h
+commandLine l end h = given (commandIn l) (λ c. carriesOut c end h) (stops malformed h)
 
 -- "The last line is `end` and the tick."
 abbrev pub ends : Held → Step

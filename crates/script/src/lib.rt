@@ -8,6 +8,7 @@ ghost use Rattle.text.specs.Script.{ends, lastAt, guestLine, lineWith, oneLine,
 ghost use Rattle.laws.specs.Digits.{valueIn};
 ghost use Rattle.text.specs.Numbers.{isDigit, digitsIn, mostDigits, wellFormed, numberAt};
 ghost use Rattle.script.specs.Parts.{gotIn};
+use text::Call;
 use text::Line;
 
 // A number that was read, and the place behind it.
@@ -160,9 +161,9 @@ fn line_with(letter: u8, value: u64) -> Line
 {
     match letter {
         b'F' => Line::Frame(value),
-        b'A' => Line::Arrive(value),
-        b'D' => Line::Done(value),
-        b'R' => Line::Advance(value),
+        b'A' => Line::Command(Call::Arrive(value)),
+        b'D' => Line::Command(Call::Done(value)),
+        b'R' => Line::Command(Call::Advance(value)),
         _ => Line::Malformed,
     }
 }

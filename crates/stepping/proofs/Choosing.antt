@@ -15,8 +15,10 @@ use Rattle.rules.specs.declared.Outcome.{Outcome}
 use Rattle.rules.specs.Refusals.{first}
 use Rattle.rules.specs.Table.{tableRows}
 use Rattle.rules.specs.Calls.{Arrived, Finished, stateAfter}
+use Rattle.text.specs.declared.Call.{Call}
+use Rattle.text.specs.declared.Call.the-variants.{Arrive, Done, Advance}
 use Rattle.text.specs.declared.Line.{Line}
-use Rattle.text.specs.declared.Line.the-variants.{Frame, Guest, Arrive, Done, Advance, Malformed}
+use Rattle.text.specs.declared.Line.the-variants.{Frame, Guest, Command, Malformed}
 use Rattle.text.specs.Script.{malformed}
 use Rattle.text.proofs.Line as declared-line
 use Rattle.text.specs.Lines.{hasRoom}
@@ -31,28 +33,22 @@ use Rattle.stepping.specs.Parts.{Did, called}
 -- ---- another line
 
 module _ (end : ℕ) (h : Held) where
-  pub frame-other : (l : Line) → OneOf (1 ∷ 2 ∷ 3 ∷ 4 ∷ 5 ∷ []) (tagOf declared-line.the-type l) → frameLine l end h ≡ stops malformed h
-  frame-other (Frame f) k = absurd (miss (1 ∷ 2 ∷ 3 ∷ 4 ∷ 5 ∷ []) 0 tt k)
+  pub frame-other : (l : Line) → OneOf (1 ∷ 2 ∷ 3 ∷ []) (tagOf declared-line.the-type l) → frameLine l end h ≡ stops malformed h
+  frame-other (Frame f) k = absurd (miss (1 ∷ 2 ∷ 3 ∷ []) 0 tt k)
   frame-other (Guest q t) k = refl
-  frame-other (Arrive i) k = refl
-  frame-other (Done i) k = refl
-  frame-other (Advance n) k = refl
+  frame-other (Command c) k = refl
   frame-other Malformed k = refl
 
-  pub guest-other : (l : Line) → OneOf (0 ∷ 2 ∷ 3 ∷ 4 ∷ 5 ∷ []) (tagOf declared-line.the-type l) → guestLine l end h ≡ checks (first (tableRows (h .table))) h
+  pub guest-other : (l : Line) → OneOf (0 ∷ 2 ∷ 3 ∷ []) (tagOf declared-line.the-type l) → guestLine l end h ≡ checks (first (tableRows (h .table))) h
   guest-other (Frame f) k = refl
-  guest-other (Guest q t) k = absurd (miss (0 ∷ 2 ∷ 3 ∷ 4 ∷ 5 ∷ []) 1 tt k)
-  guest-other (Arrive i) k = refl
-  guest-other (Done i) k = refl
-  guest-other (Advance n) k = refl
+  guest-other (Guest q t) k = absurd (miss (0 ∷ 2 ∷ 3 ∷ []) 1 tt k)
+  guest-other (Command c) k = refl
   guest-other Malformed k = refl
 
-  pub command-other : (l : Line) → OneOf (0 ∷ 1 ∷ 5 ∷ []) (tagOf declared-line.the-type l) → commandLine l end h ≡ stops malformed h
+  pub command-other : (l : Line) → OneOf (0 ∷ 1 ∷ 3 ∷ []) (tagOf declared-line.the-type l) → commandLine l end h ≡ stops malformed h
   command-other (Frame f) k = refl
   command-other (Guest q t) k = refl
-  command-other (Arrive i) k = absurd (miss (0 ∷ 1 ∷ 5 ∷ []) 2 tt k)
-  command-other (Done i) k = absurd (miss (0 ∷ 1 ∷ 5 ∷ []) 3 tt k)
-  command-other (Advance n) k = absurd (miss (0 ∷ 1 ∷ 5 ∷ []) 4 tt k)
+  command-other (Command c) k = absurd (miss (0 ∷ 1 ∷ 3 ∷ []) 2 tt k)
   command-other Malformed k = refl
 
 -- ---- the line of a stage
@@ -61,20 +57,20 @@ module _ (h : Held) {l : Line} {end : ℕ} where
   pub framed-step : {f : ℕ} → l ≡ Frame f → {table : Table} {held : Held} → table ≡ framed f → held ≡ withTable end table (h .state) → frameLine l end h ≡ step [] held
   framed-step e t e′ = rw (e, e′, t) refl
 
-  pub guest-step : {q p : ℕ} → l ≡ Guest q p → {table : Table} {held : Held} → table ≡ withGuest q p (h .table) → held ≡ withTable end table (h .state) → guestLine l end h ≡ step [] held
+  pub guest-step : {q p : ℕ} → l ≡ Guest q p → {table : Table} {held : Held} → table ≡ withGuest (record { budget = q; period = p }) (h .table) → held ≡ withTable end table (h .state) → guestLine l end h ≡ step [] held
   guest-step e t e′ = rw (e, e′, t) refl
 
-module _ (end : ℕ) (h : Held) {l : Line} where
-  pub arrive-line : {i : ℕ} → l ≡ Arrive i → {r : Outcome} → Arrived (h .state) i r → commandLine l end h ≡ called r end h
+module _ (end : ℕ) (h : Held) {l : Line} {c : Call} (e : l ≡ Command c) where
+  pub arrive-line : {i : ℕ} → c ≡ Arrive i → {r : Outcome} → Arrived (h .state) i r → commandLine l end h ≡ called r end h
   unfolding stateAfter
-  arrive-line e a = rw (e, a .answer, a .state) refl
+  arrive-line f a = rw (e, f, a .answer, a .state) refl
 
-  pub done-line : {i : ℕ} → l ≡ Done i → {r : Outcome} → Finished (h .state) i r → commandLine l end h ≡ called r end h
+  pub done-line : {i : ℕ} → c ≡ Done i → {r : Outcome} → Finished (h .state) i r → commandLine l end h ≡ called r end h
   unfolding stateAfter
-  done-line e a = rw (e, a .answer, a .state) refl
+  done-line f a = rw (e, f, a .answer, a .state) refl
 
-  pub advance-line : {k : ℕ} → l ≡ Advance k → commandLine l end h ≡ walks k end h
-  advance-line e = rw e refl
+  pub advance-line : {k : ℕ} → c ≡ Advance k → commandLine l end h ≡ walks k end h
+  advance-line f = rw (e, f) refl
 
 -- ---- the line that comes next
 

@@ -11,6 +11,7 @@ use borrow.Author.Tests.{le-leb}
 use Rattle.laws.proofs.Cases.{by-index}
 use Rattle.laws.proofs.Parts.{stored-on}
 use Rattle.laws.proofs.Places.{take-padded}
+use Rattle.rules.specs.declared.Entry.{Entry}
 use Rattle.rules.specs.declared.Table.{Table}
 use Rattle.rules.specs.declared.Outcome.{Outcome}
 use Rattle.rules.specs.declared.State.{State}
@@ -105,16 +106,16 @@ module _ {ps : List LinePlace} {before after : List ℕ} {filled r : ℕ} (p : P
 -- ---- the table
 
 module _ (t : Table) where
-  pub guest-placed : (budget period : ℕ) → t .count < guestPlaces
-      → record { frame = t .frame; count = t .count + 1; entries = set (t .entries) (t .count) (record { budget = budget; period = period }) } ≡ withGuest budget period t
-  guest-placed budget period h = let count : min (suc (t .count)) (suc guestPlaces) ≡ t .count + 1 = omega arith in rw count refl
+  pub guest-placed : (guest : Entry) → t .count < guestPlaces
+      → record { frame = t .frame; count = t .count + 1; entries = set (t .entries) (t .count) guest } ≡ withGuest guest t
+  guest-placed guest h = let count : min (suc (t .count)) (suc guestPlaces) ≡ t .count + 1 = omega arith in rw count refl
 
   -- one past the places
-  pub guest-too-many : (budget period : ℕ) → guestPlaces ≤ t .count → length (t .entries) ≡ guestPlaces
-      → record { frame = t .frame; count = guestPlaces + 1; entries = t .entries } ≡ withGuest budget period t
-  guest-too-many budget period h l =
+  pub guest-too-many : (guest : Entry) → guestPlaces ≤ t .count → length (t .entries) ≡ guestPlaces
+      → record { frame = t .frame; count = guestPlaces + 1; entries = t .entries } ≡ withGuest guest t
+  guest-too-many guest h l =
       let count : min (suc (t .count)) (suc guestPlaces) ≡ guestPlaces + 1 = omega arith in
-      rw (count, set-out (t .entries) (t .count) (record { budget = budget; period = period }) (omega arith)) refl
+      rw (count, set-out (t .entries) (t .count) guest (omega arith)) refl
 
   -- a table that no number refuses has its fresh state
   pub check-went : {r : Outcome} → Freshened t r → numberOf (r .answer) ≡ 0 → (h : Held) → h .table ≡ t → {held : Held} → held ≡ goingOn (h .at) t (r .state) 0 → checks (first (tableRows t)) h ≡ step [] held

@@ -15,6 +15,7 @@ use rules::Answer;
 use rules::Outcome;
 use rules::State;
 use rules::Table;
+use text::Call;
 use text::Line;
 
 pub(crate) fn going_on(at: usize, table: Table, state: State, left: u64) -> Held
@@ -70,18 +71,20 @@ fn command_line(line: Line, end: usize, h: Held, buffer: &mut [u8], filled: usiz
     requires { ⌜ filled + stepRoom ≤ length (now buffer) ⌝ }
     ensures { λ r. ⌜ Did (commandLine line end h) (now (buffer .entry)) filled (now (buffer .exit)) r ⌝ }
 {
+    let Line::Command(call) = line else {
+        return malformed(h, buffer, filled);
+    };
     let s = h.state;
-    match line {
-        Line::Arrive(i) => {
+    match call {
+        Call::Arrive(i) => {
             let outcome = engine::arrive(s, i as usize);
             called(outcome, end, h, buffer, filled)
         }
-        Line::Done(i) => {
+        Call::Done(i) => {
             let outcome = engine::done(s, i as usize);
             called(outcome, end, h, buffer, filled)
         }
-        Line::Advance(k) => walked(k, end, h, buffer, filled),
-        _ => malformed(h, buffer, filled),
+        Call::Advance(k) => walked(k, end, h, buffer, filled),
     }
 }
 

@@ -38,8 +38,8 @@ fn framed(frame: u64) -> Table
 }
 
 // A guest past the places is counted and has no place: the count alone has the table refused.
-fn with_guest(t: Table, budget: u64, period: u64) -> Table
-    ensures { λ r. ⌜ r ≡ withGuest budget period t ⌝ }
+fn with_guest(t: Table, guest: Entry) -> Table
+    ensures { λ r. ⌜ r ≡ withGuest guest t ⌝ }
 {
     let count = t.count;
     let mut entries = t.entries;
@@ -50,7 +50,7 @@ fn with_guest(t: Table, budget: u64, period: u64) -> Table
             entries,
         };
     }
-    entries[count] = Entry { budget, period };
+    entries[count] = guest;
     Table {
         frame: t.frame,
         count: count + 1,
@@ -115,7 +115,8 @@ pub(crate) fn guest_step(input: &[u8], h: Held, buffer: &mut [u8], filled: usize
     let line = next.line;
     match line {
         Line::Guest(budget, period) => {
-            let table = with_guest(h.table, budget, period);
+            let guest = Entry { budget, period };
+            let table = with_guest(h.table, guest);
             let held = with_table(next.end, table, state);
             Stepped { held, filled }
         }

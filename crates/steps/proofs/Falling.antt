@@ -12,14 +12,17 @@ use Rattle.rules.specs.Refusals.{first}
 use Rattle.rules.specs.Table.{tableRows}
 use Rattle.rules.specs.Walks.{walkLeft}
 use Rattle.promises.proofs.Walks.{walk-left-falls, walk-left-bound}
+use Rattle.text.specs.declared.Call.{Call}
+use Rattle.text.specs.declared.Call.the-variants.{Arrive, Done, Advance}
 use Rattle.text.specs.declared.Line.{Line}
-use Rattle.text.specs.declared.Line.the-variants.{Frame, Guest, Arrive, Done, Advance, Malformed}
+use Rattle.text.specs.declared.Line.the-variants.{Malformed}
 use Rattle.text.specs.Script.{malformed}
 use Rattle.listing.specs.declared.Stage.{Stage}
 use Rattle.listing.specs.declared.Stage.the-variants.{Frames, Guests, Commands, Over}
 use Rattle.listing.specs.declared.Held.{Held}
-use Rattle.listing.specs.Listing.{mostInput}
-use Rattle.listing.specs.Stepping.{lineAt, behind, Step, heldOf, stops, over, ends, frameLine, checks, guestLine, walks, commandLine, stepIn, stepOf, goesOn, stagesLeft, toGo, StepFalls}
+use Rattle.listing.specs.Listing.{frameIn, guestIn, commandIn, mostInput}
+use Rattle.listing.specs.Stepping.{lineAt, behind, Step, heldOf, stops, over, ends, frameLine, checks, guestLine, walks, carriesOut, commandLine, stepIn, stepOf, goesOn, stagesLeft, toGo, StepFalls}
+use Rattle.steps.proofs.Giving.{by-given}
 use Rattle.steps.proofs.Inputs.{line-end, behind-low, behind-high}
 
 -- the first number is smaller, and the second no greater than the weight allows
@@ -49,28 +52,19 @@ module _ (input : List ℕ) (h : Held) where
   -- a line behind which the input goes on, or ends
   module _ (end : ℕ) (low : h .at < end) (high : end ≤ length input) where
     frame-less : h .stage ≡ Frames → (l : Line) → Less (frameLine l end h)
-    frame-less e (Frame f) = rw e (weigh _ _ _ 0 (h .left) (omega arith) (omega arith))
-    frame-less e (Guest q t) = over-less (rw e (omega arith))
-    frame-less e (Arrive i) = over-less (rw e (omega arith))
-    frame-less e (Done i) = over-less (rw e (omega arith))
-    frame-less e (Advance k) = over-less (rw e (omega arith))
-    frame-less e Malformed = over-less (rw e (omega arith))
+    frame-less e l = by-given Less (frameIn l) (λ f. rw e (weigh _ _ _ 0 (h .left) (omega arith) (omega arith))) (over-less (rw e (omega arith)))
 
     guest-less : h .stage ≡ Guests → (l : Line) → Less (guestLine l end h)
-    guest-less e (Guest q t) = rw e (weigh _ _ _ 0 (h .left) (omega arith) (omega arith))
-    guest-less e (Frame f) = check-less e (first (tableRows (h .table)))
-    guest-less e (Arrive i) = check-less e (first (tableRows (h .table)))
-    guest-less e (Done i) = check-less e (first (tableRows (h .table)))
-    guest-less e (Advance k) = check-less e (first (tableRows (h .table)))
-    guest-less e Malformed = check-less e (first (tableRows (h .table)))
+    guest-less e l =
+        by-given Less (guestIn l) (λ guest. rw e (weigh _ _ _ 0 (h .left) (omega arith) (omega arith))) (check-less e (first (tableRows (h .table))))
+
+    call-less : h .stage ≡ Commands → (c : Call) → Less (carriesOut c end h)
+    call-less e (Arrive i) = rw e (weigh _ _ _ 0 (h .left) (omega arith) (omega arith))
+    call-less e (Done i) = rw e (weigh _ _ _ 0 (h .left) (omega arith) (omega arith))
+    call-less e (Advance k) = rw e (weigh _ _ _ (walkLeft k (h .state)) (h .left) (omega arith) (omega (arith, walk-left-bound (h .state) k)))
 
     command-less : h .stage ≡ Commands → (l : Line) → Less (commandLine l end h)
-    command-less e (Arrive i) = rw e (weigh _ _ _ 0 (h .left) (omega arith) (omega arith))
-    command-less e (Done i) = rw e (weigh _ _ _ 0 (h .left) (omega arith) (omega arith))
-    command-less e (Advance k) = rw e (weigh _ _ _ (walkLeft k (h .state)) (h .left) (omega arith) (omega (arith, walk-left-bound (h .state) k)))
-    command-less e (Frame f) = over-less (rw e (omega arith))
-    command-less e (Guest q t) = over-less (rw e (omega arith))
-    command-less e Malformed = over-less (rw e (omega arith))
+    command-less e l = by-given Less (commandIn l) (call-less e) (over-less (rw e (omega arith)))
 
   -- a step that looks at the line which comes next: at the end of the input there is none, and else it has an end
   by-line : (f : Line → ℕ → Held → Step) → ((end : ℕ) → Less (f Malformed end h))

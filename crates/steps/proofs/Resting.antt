@@ -18,15 +18,17 @@ use Rattle.rules.specs.Walks.{linePlace, walkLines, walkState, walkLeft}
 use Rattle.promises.proofs.Calling.{MayAdvance, may-advance, may-stay, advance-allowed, advance-nothing, sound-kept}
 use Rattle.promises.proofs.Starting.{fresh-is-sound}
 use Rattle.promises.proofs.Walks.{walk-on, walk-joins, walk-reaches}
+use Rattle.text.specs.declared.Call.{Call as LineCall}
+use Rattle.text.specs.declared.Call.the-variants.{Arrive, Done, Advance}
 use Rattle.text.specs.declared.Line.{Line}
-use Rattle.text.specs.declared.Line.the-variants.{Frame, Guest, Arrive, Done, Advance, Malformed}
 use Rattle.text.specs.Script.{malformed}
 use Rattle.text.specs.Lines.{refusalBytes, endBytes}
 use Rattle.listing.specs.declared.Stage.{Stage}
 use Rattle.listing.specs.declared.Stage.the-variants.{Frames, Guests, Commands, Over}
 use Rattle.listing.specs.declared.Held.{Held}
-use Rattle.listing.specs.Listing.{asked, refusalIn, portionsBytes, printed, commands, checkedBy, checked, guests, listed, mostInput}
-use Rattle.listing.specs.Stepping.{lineAt, behind, Step, putOf, heldOf, stops, ends, frameLine, checks, guestLine, calls, walks, commandLine, stepIn, stepOf}
+use Rattle.listing.specs.Listing.{asked, frameIn, guestIn, commandIn, callOf, refusalIn, portionsBytes, printed, commands, checkedBy, checked, guests, listed, mostInput}
+use Rattle.listing.specs.Stepping.{lineAt, behind, Step, putOf, heldOf, stops, ends, frameLine, checks, guestLine, calls, walks, carriesOut, commandLine, stepIn, stepOf}
+use Rattle.steps.proofs.Giving.{by-both}
 use Rattle.steps.proofs.Inputs.{asked-end, asked-cons, line-end}
 
 -- ---- portions
@@ -133,12 +135,7 @@ module _ (input : List ℕ) (h : Held) where
 
   frame-puts : (end : ℕ) (l : Line) → Puts input (listed (l ∷ asked (drop end input))) (frameLine l end h)
   unfolding listed
-  frame-puts end (Frame f) = record { put = refl; fit = tt }
-  frame-puts end (Guest q t) = stop-puts malformed
-  frame-puts end (Arrive i) = stop-puts malformed
-  frame-puts end (Done i) = stop-puts malformed
-  frame-puts end (Advance k) = stop-puts malformed
-  frame-puts end Malformed = stop-puts malformed
+  frame-puts end l = by-both (Puts input) (frameIn l) (λ f. record { put = refl; fit = tt }) (stop-puts malformed)
 
   check-puts : Puts input (checked (h .table) (asked (drop (h .at) input))) (checks (first (tableRows (h .table))) h)
   unfolding checked
@@ -155,12 +152,7 @@ module _ (input : List ℕ) (h : Held) where
 
   guest-puts : (end : ℕ) (l : Line) → asked (drop (h .at) input) ≡ l ∷ asked (drop end input) → Puts input (guests (h .table) (l ∷ asked (drop end input))) (guestLine l end h)
   unfolding guests
-  guest-puts end (Guest q t) e = record { put = refl; fit = tt }
-  guest-puts end (Frame f) e = check-here _ e
-  guest-puts end (Arrive i) e = check-here _ e
-  guest-puts end (Done i) e = check-here _ e
-  guest-puts end (Advance k) e = check-here _ e
-  guest-puts end Malformed e = check-here _ e
+  guest-puts end l e = by-both (Puts input) (guestIn l) (λ guest. record { put = refl; fit = tt }) (check-here _ e)
 
   -- ---- the commands
 
@@ -180,14 +172,15 @@ module _ (input : List ℕ) (h : Held) where
         let n = first (advanceRows (h .state) k) in
         record { put = walk-put (h .state) k (asked (drop end input)) n refl; fit = walk-fits (h .state) whole k n refl }
 
+    carried-puts : (c : LineCall) → Puts input (printed (callOf c) (h .state) ++ commands (stateAfter (callOf c) (h .state)) (asked (drop end input))) (carriesOut c end h)
+    unfolding linesOf
+    carried-puts (Arrive i) = call-puts (arrives i) refl
+    carried-puts (Done i) = call-puts (finishes i) refl
+    carried-puts (Advance k) = walk-puts k
+
     command-puts : (l : Line) → Puts input (commands (h .state) (l ∷ asked (drop end input))) (commandLine l end h)
-    unfolding commands linesOf
-    command-puts (Arrive i) = call-puts (arrives i) refl
-    command-puts (Done i) = call-puts (finishes i) refl
-    command-puts (Advance k) = walk-puts k
-    command-puts (Frame f) = stop-puts malformed
-    command-puts (Guest q t) = stop-puts malformed
-    command-puts Malformed = stop-puts malformed
+    unfolding commands
+    command-puts l = by-both (Puts input) (commandIn l) carried-puts (stop-puts malformed)
 
   -- ---- every stage
 

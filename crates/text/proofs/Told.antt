@@ -1,8 +1,9 @@
 -- What the contracts of the public functions of `script` and `lines` allow is one outcome.
 use mathlib.Core.Path.{_≡_, refl, sym, ap, _∙_}
 use mathlib.Core.List.{[], _∷_}
+use Rattle.text.specs.declared.Call.the-variants.{Arrive, Done, Advance}
 use Rattle.text.specs.declared.Line.{Line}
-use Rattle.text.specs.declared.Line.the-variants.{Frame, Guest, Arrive, Done, Advance, Malformed}
+use Rattle.text.specs.declared.Line.the-variants.{Frame, Guest, Command, Malformed}
 use Rattle.text.specs.Script.{Said, says, refuses, saidBy, lineWith, OneAnswer}
 use Rattle.text.specs.Lines.{OneOutcome}
 
@@ -19,9 +20,9 @@ undone : (l : Line) → undo (saidBy l) ≡ l
 unfolding undo
 undone (Frame h) = refl
 undone (Guest q t) = refl
-undone (Arrive i) = refl
-undone (Done i) = refl
-undone (Advance k) = refl
+undone (Command (Arrive i)) = refl
+undone (Command (Done i)) = refl
+undone (Command (Advance k)) = refl
 undone Malformed = refl
 
 pub one-answer : OneAnswer

@@ -7,8 +7,9 @@ use lib.Dec.{eqb}
 use lib.ListN.{length, getD}
 use Rattle.rules.specs.declared.Refusal.the-variants.{Malformed as LineMalformed}
 use Rattle.rules.specs.Refusals.{refusalNumber}
+use Rattle.text.specs.declared.Call.the-variants.{Arrive, Done, Advance}
 use Rattle.text.specs.declared.Line.{Line}
-use Rattle.text.specs.declared.Line.the-variants.{Frame, Guest, Arrive, Done, Advance, Malformed}
+use Rattle.text.specs.declared.Line.the-variants.{Frame, Guest, Command, Malformed}
 use Rattle.text.specs.Numbers.{Got, noNumber, got, numberAt}
 
 -- ---- what a line asks for, in 01's letters and numbers
@@ -26,9 +27,9 @@ pub data Said : Type 0 where
 abbrev pub saidBy : Line → Said
 saidBy (Frame h) = says 70 (h ∷ [])
 saidBy (Guest q t) = says 71 (q ∷ t ∷ [])
-saidBy (Arrive i) = says 65 (i ∷ [])
-saidBy (Done i) = says 68 (i ∷ [])
-saidBy (Advance k) = says 82 (k ∷ [])
+saidBy (Command (Arrive i)) = says 65 (i ∷ [])
+saidBy (Command (Done i)) = says 68 (i ∷ [])
+saidBy (Command (Advance k)) = says 82 (k ∷ [])
 saidBy Malformed = refuses malformed
 
 -- ---- how it is read
@@ -61,7 +62,7 @@ guestLine (got q rest) = guestEnd q (lastAt rest)
 -- "`F h`", "`A i` (arrive), `D i` (done), `R k` (advance)"
 abbrev pub lineWith : ℕ → ℕ → Line
 lineWith letter value =
-    cond (eqb letter 70) (Frame value) (cond (eqb letter 65) (Arrive value) (cond (eqb letter 68) (Done value) (cond (eqb letter 82) (Advance value) Malformed)))
+    cond (eqb letter 70) (Frame value) (cond (eqb letter 65) (Command (Arrive value)) (cond (eqb letter 68) (Command (Done value)) (cond (eqb letter 82) (Command (Advance value)) Malformed)))
 
 -- a letter and its one number
 abbrev pub oneLine : ℕ → Got → Line
