@@ -13,7 +13,7 @@ use Rattle.laws.proofs.Parts.{stored-on}
 use Rattle.rules.specs.declared.Line.{Line as LinePlace}
 use Rattle.text.specs.Decimal.{decimal}
 use Rattle.text.specs.Lines.{spaced, closed, usedBytes, portionBytes, refusalBytes, endBytes, lineRoom, hasRoom, LinePut}
-use Rattle.lines.specs.Parts.{PartPut}
+use Rattle.lines.specs.Inner.{PartPut}
 
 -- ---- parts
 

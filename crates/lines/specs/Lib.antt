@@ -1,2 +1,2 @@
 -- The contracts of the functions that put the parts of a line.
-pub mod Parts
+pub mod Inner

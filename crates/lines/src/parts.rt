@@ -4,7 +4,7 @@ ghost use Prim.Native.Nat.{_+_, _≤_, _<_};
 ghost use lib.ListN.{length};
 ghost use Rattle.text.specs.Decimal.{digitCount, decimal};
 ghost use Rattle.text.specs.Lines.{dash, spaced, closed, sourceBytes, usedBytes};
-ghost use Rattle.lines.specs.Parts.{PartPut};
+ghost use Rattle.lines.specs.Inner.{PartPut};
 use rules::Source;
 use rules::Use;
 

@@ -1,8 +1,6 @@
 -- What the mask and the choice read of the guests, and the rules' pick for what the code answers.
-use mathlib.Core.Bool.{Bool, not, _&&_, _||_}
 use mathlib.Core.List.{List, map}
 use Prim.Native.Nat.{ℕ}
-use lib.Dec.{eqb, ltb}
 use lib.ListN.{take}
 use Rattle.rules.specs.declared.Guest.{Guest as GuestPlace}
 use Rattle.rules.specs.Model.{Guest}
@@ -19,10 +17,6 @@ shown g = guestOf noEntry g
 -- the first n guests
 abbrev pub inUse : ℕ → List GuestPlace → List Guest
 inUse n gs = map shown (take n gs)
-
--- g runs before b, where b has the lower number: an idle guest never does, and before an idle one any other
-abbrev pub beats : GuestPlace → GuestPlace → Bool
-beats b g = not (eqb (g .jobs) 0) && (eqb (b .jobs) 0 || ltb (g .deadline) (b .deadline))
 
 -- the rules' pick that the code's pick stands for
 unfoldable pub pickOf : DeclaredPick → Pick

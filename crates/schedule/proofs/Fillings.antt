@@ -6,7 +6,7 @@ use lib.ListN.{take}
 use Rattle.listing.specs.declared.Held.{Held}
 use Rattle.listing.specs.Stepping.{goesOn, putOut, heldAfter, atFirst}
 use Rattle.steps.proofs.Steps.{put-then, held-then, steps-are-listing}
-use Rattle.schedule.specs.Filling.{Fillings, begun, filled, FillingsAreListing}
+use Rattle.schedule.specs.Contracts.{Fillings, begun, filled, FillingsAreListing}
 
 -- so many steps were made in all
 record Made (input : List ℕ) (h : Held) (bytes : List ℕ) : Type 0 where

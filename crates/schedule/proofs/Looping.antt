@@ -15,7 +15,7 @@ use Rattle.listing.specs.Stepping.{putOf, heldOf, stepOf, goesOn, toGo, stepRoo
 use Rattle.steps.proofs.Falling.{step-falls}
 use Rattle.steps.proofs.Steps.{put-more, held-more}
 use Rattle.stepping.proofs.Choosing.{stepping-long, stepping-held, stepping-holds, stepping-content}
-use Rattle.schedule.specs.Filling.{Filled}
+use Rattle.schedule.specs.Contracts.{Filled}
 
 -- what is stored behind the front comes behind it
 taken-on : (l vs : List ℕ) (i : ℕ) → i + length vs ≤ length l → take (i + length vs) (sets l i vs) ≡ take i l ++ vs

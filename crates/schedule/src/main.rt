@@ -2,7 +2,7 @@
 ghost use Prim.Native.Nat.{_≤_};
 ghost use lib.ListN.{length};
 ghost use Rattle.listing.specs.Stepping.{stepRoom};
-ghost use Rattle.schedule.specs.Filling.{Filled};
+ghost use Rattle.schedule.specs.Contracts.{Filled};
 use libc::STDIN_FILENO;
 use libc::STDOUT_FILENO;
 use listing::Held;

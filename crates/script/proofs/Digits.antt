@@ -15,7 +15,7 @@ use Rattle.laws.proofs.Cases.{and-both, and-intro, by-test}
 use Rattle.script.specs.declared.Number.{Number}
 use Rattle.laws.specs.Digits.{valueIn}
 use Rattle.text.specs.Numbers.{mostDigits, isDigit, digitsIn, wellFormed, Got, noNumber, got, numberAt}
-use Rattle.script.specs.Parts.{gotIn}
+use Rattle.script.specs.Inner.{gotIn}
 
 -- ---- a digit
 

@@ -13,7 +13,7 @@ use Rattle.script.specs.declared.Number.{Number}
 use Rattle.text.specs.declared.Line.the-variants.{Guest, Malformed}
 use Rattle.text.specs.Numbers.{Got, noNumber, got, numberAt}
 use Rattle.text.specs.Script.{ends, ended, lastAt, guestEnd, guestLine, lineWith, oneLine, lineOf}
-use Rattle.script.specs.Parts.{gotIn}
+use Rattle.script.specs.Inner.{gotIn}
 
 -- ---- the end
 

@@ -1,2 +1,2 @@
 -- The contract of the functions that read a line's numbers.
-pub mod Parts
+pub mod Inner

@@ -7,7 +7,7 @@ ghost use lib.Seq.{slice};
 ghost use Rattle.text.specs.Script.{ends, lastAt, guestLine, lineWith, oneLine, LineTold};
 ghost use Rattle.laws.specs.Digits.{valueIn};
 ghost use Rattle.text.specs.Numbers.{isDigit, digitsIn, mostDigits, wellFormed, numberAt};
-ghost use Rattle.script.specs.Parts.{gotIn};
+ghost use Rattle.script.specs.Inner.{gotIn};
 use text::Call;
 use text::Line;
 

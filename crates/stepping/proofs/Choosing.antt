@@ -28,7 +28,7 @@ use Rattle.listing.specs.declared.Held.{Held}
 use Rattle.listing.specs.declared.Stepped.{Stepped}
 use Rattle.listing.specs.Listing.{framed, withGuest, mostInput}
 use Rattle.listing.specs.Stepping.{lineAt, behind, Step, step, putOf, heldOf, stops, ends, withTable, frameLine, checks, guestLine, walks, commandLine, commandStep, stepIn, stepOf, stepRoom, Stepping}
-use Rattle.stepping.specs.Parts.{Did, called}
+use Rattle.stepping.specs.Inner.{Did, called}
 
 -- ---- another line
 

@@ -35,7 +35,7 @@ use Rattle.listing.specs.declared.Held.{Held}
 use Rattle.listing.specs.Listing.{refusalIn, portionsBytes, withGuest}
 use Rattle.listing.specs.Stepping.{Step, step, stops, over, goingOn, checks, walks}
 use Rattle.steps.proofs.Resting.{walk-nothing}
-use Rattle.stepping.specs.Parts.{Did, PortionsPut, called}
+use Rattle.stepping.specs.Inner.{Did, PortionsPut, called}
 
 -- ---- nothing, or one line
 

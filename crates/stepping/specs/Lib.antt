@@ -1,2 +1,2 @@
 -- The contracts of the functions that a step is made of.
-pub mod Parts
+pub mod Inner

@@ -3,7 +3,7 @@ ghost use mathlib.Core.Path.{_≡_};
 ghost use Prim.Native.Nat.{_+_, _≤_};
 ghost use lib.ListN.{length};
 ghost use Rattle.listing.specs.Stepping.{stepRoom, goingOn, walks, ends, commandLine, commandStep};
-ghost use Rattle.stepping.specs.Parts.{Did, called};
+ghost use Rattle.stepping.specs.Inner.{Did, called};
 use crate::input::next_line;
 use crate::put::malformed;
 use crate::put::over;

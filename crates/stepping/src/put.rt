@@ -6,7 +6,7 @@ ghost use Rattle.rules.specs.Limits.{linePlaces};
 ghost use Rattle.rules.specs.Refusals.{numberOf};
 ghost use Rattle.text.specs.Script.{malformed};
 ghost use Rattle.listing.specs.Stepping.{stepRoom, over, stops};
-ghost use Rattle.stepping.specs.Parts.{Did, PortionsPut};
+ghost use Rattle.stepping.specs.Inner.{Did, PortionsPut};
 use listing::Held;
 use listing::Stage;
 use listing::Stepped;

@@ -7,7 +7,7 @@ ghost use Rattle.rules.specs.Table.{tableRows};
 ghost use Rattle.listing.specs.declared.Stage.the-variants.{Frames, Guests};
 ghost use Rattle.listing.specs.Listing.{framed, withGuest};
 ghost use Rattle.listing.specs.Stepping.{stepRoom, withTable, checks, stepIn};
-ghost use Rattle.stepping.specs.Parts.{Did};
+ghost use Rattle.stepping.specs.Inner.{Did};
 use crate::commands::going_on;
 use crate::input::next_line;
 use crate::put::malformed;

@@ -1,4 +1,4 @@
 -- The rows of the definitions, and laws of numbers in decimal.
 pub mod Computed
 pub mod Decimal
-pub mod Told
+pub mod Unique

@@ -5,5 +5,6 @@ pub mod Leaving
 pub mod Mirroring
 pub mod Placing
 pub mod Renewing
+pub mod Searching
 pub mod Rows
 pub mod Turning

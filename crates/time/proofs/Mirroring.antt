@@ -18,7 +18,7 @@ use Rattle.rules.specs.Limits.{guestPlaces}
 use Rattle.rules.specs.Model.{Guest, maskOf}
 use Rattle.rules.specs.Places.{noGuestPlace}
 use Rattle.rules.specs.Steps.{earliest}
-use Rattle.order.proofs.Choosing.{lowest-first}
+use Rattle.time.proofs.Searching.{lowest-first}
 use Rattle.time.specs.Inner.{never, dueAt, AllDue, Mirrors}
 
 -- ---- filled in

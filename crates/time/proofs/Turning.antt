@@ -41,7 +41,7 @@ use Rattle.promises.proofs.Spans.{settled, ask-uses, span-positive, at-once}
 use Rattle.promises.proofs.Ticking.{advance-add, advance-sane}
 use Rattle.promises.proofs.Walks.{ticks-in-le, lines-more, ticks-more, ticks-enough, lines-enough, walk-lines, walk-left, walk-state}
 use Rattle.order.specs.Choice.{shown, inUse}
-use Rattle.order.proofs.Choosing.{lowest-first, in-use-few}
+use Rattle.order.proofs.Choosing.{in-use-few}
 use Rattle.portions.specs.declared.Charge.{Charge}
 use Rattle.portions.specs.Contracts.{firstOf, chargeOf}
 use Rattle.time.specs.Inner.{ranPlace, spentPlace, dueAt, AllDue, SoonestFrom, placed, listed, begunFrom, startedAt, laterBy, stateOf, walkOf}

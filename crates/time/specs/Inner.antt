@@ -1,7 +1,7 @@
 -- The contracts of time's own functions: what a charge takes, where a walk stands between two portions, and deadlines as plain numbers.
 use mathlib.Core.List.{List, map}
 use mathlib.Core.Path.{_≡_}
-use mathlib.Core.Bool.{cond}
+use mathlib.Core.Bool.{Bool, cond, not, _&&_, _||_}
 use Prim.Native.Nat.{ℕ, zero, suc, _+_, _-_, _≤_, _<_}
 use lib.Seq.{slice}
 use lib.Dec.{ltb, eqb}
@@ -17,7 +17,7 @@ use Rattle.rules.specs.Limits.{guestPlaces, sparePlaces}
 use Rattle.rules.specs.Model.{Guest, Spare, Model}
 use Rattle.rules.specs.Places.{guestPlace, sparePlace, noGuestPlace, noSparePlace}
 use Rattle.rules.specs.Steps.{renewed, ready, earliest}
-use Rattle.order.specs.Choice.{shown, inUse, beats}
+use Rattle.order.specs.Choice.{shown, inUse}
 use Rattle.portions.specs.declared.Charge.{Charge}
 use Rattle.time.specs.declared.walking.Clock.{Clock}
 
@@ -93,6 +93,10 @@ dueAt g = cond (eqb (g .jobs) 0) never (g .deadline)
 -- every deadline comes before it
 abbrev pub AllDue : List GuestPlace → Type 0
 AllDue gs = (i : ℕ) → i < length gs → getD gs i noGuestPlace .deadline < never
+
+-- g runs before b, where b has the lower number: an idle guest never does, and before an idle one any other
+abbrev pub beats : GuestPlace → GuestPlace → Bool
+beats b g = not (eqb (g .jobs) 0) && (eqb (b .jobs) 0 || ltb (g .deadline) (b .deadline))
 
 -- the numbers decide between any two guests as the guests do
 abbrev pub Mirrors : List ℕ → List GuestPlace → Type 0

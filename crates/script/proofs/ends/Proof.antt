@@ -1,4 +1,4 @@
--- `script::ends` meets its contract.
+-- `script::ends` meets its contract: one byte is left, and it is the line feed.
 use Rattle.script.proofs.Lines.{ends-not, ends-told}
 use borrow.Author.Needs.{needs}
 use Rattle.script.proofs.ends.Statement.{statement}

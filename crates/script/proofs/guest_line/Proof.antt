@@ -1,4 +1,4 @@
--- `script::guest_line` meets its contract.
+-- `script::guest_line` meets its contract: two numbers, each held to its form, and the end behind them.
 use borrow.Author.Tests.{not-true, not-false}
 use Rattle.script.proofs.Lines.{guest-none, guest-half, guest-whole}
 use borrow.Author.Needs.{needs}

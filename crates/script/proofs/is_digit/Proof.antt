@@ -1,4 +1,4 @@
--- `script::is_digit` meets its contract.
+-- `script::is_digit` meets its contract: the range of bytes is the definition's.
 use native.Mathlib.Omega.{arith}
 use Rattle.script.proofs.Digits.{digit, below-digits, above-digits}
 use Rattle.script.proofs.is_digit.Statement.{statement}

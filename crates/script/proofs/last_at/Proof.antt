@@ -1,4 +1,4 @@
--- `script::last_at` meets its contract.
+-- `script::last_at` meets its contract: a number and then the end of the line.
 use mathlib.Core.Path.{sym, _∙_}
 use borrow.Author.Tests.{not-true, not-false}
 use Rattle.script.proofs.Lines.{no-number-none, last-none, last-open, last-got}

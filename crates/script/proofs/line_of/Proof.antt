@@ -1,4 +1,4 @@
--- `script::line_of` meets its contract.
+-- `script::line_of` meets its contract: by the letter: `G` has two numbers, any other letter one.
 use mathlib.Core.Path.{_∙_}
 use Rattle.script.proofs.Lines.{line-empty, line-guest, line-other}
 use borrow.Author.Needs.{needs}

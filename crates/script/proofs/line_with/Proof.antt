@@ -1,4 +1,4 @@
--- `script::line_with` meets its contract.
+-- `script::line_with` meets its contract: letter by letter.
 use Rattle.script.proofs.Lines.{with-letter, with-none}
 use borrow.Author.Needs.{needs}
 use Rattle.script.proofs.line_with.Statement.{statement}

@@ -1,4 +1,4 @@
--- `script::one_line` meets its contract.
+-- `script::one_line` meets its contract: one number, held to its form, and the end behind it.
 use mathlib.Core.Path.{_∙_}
 use borrow.Author.Tests.{not-true, not-false}
 use Rattle.script.proofs.Lines.{one-none, one-got}

@@ -1,4 +1,4 @@
--- `script::well_formed` meets its contract.
+-- `script::well_formed` meets its contract: the three tests are the definition's.
 use Rattle.script.proofs.Digits.{form-none, form-long, form-told}
 use borrow.Author.Needs.{needs}
 use Rattle.script.proofs.well_formed.Statement.{statement}

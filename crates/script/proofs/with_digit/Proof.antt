@@ -1,4 +1,4 @@
--- `script::with_digit` meets its contract.
+-- `script::with_digit` meets its contract: a digit behind the others is ten times as much and the digit.
 use Rattle.script.proofs.Digits.{digit-low}
 use borrow.Author.Needs.{needs}
 use Rattle.script.proofs.with_digit.Statement.{statement}

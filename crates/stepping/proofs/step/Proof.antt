@@ -8,7 +8,7 @@ use Rattle.listing.specs.declared.Stage.{Stage}
 use Rattle.listing.specs.declared.Stage.the-variants.{Frames, Guests, Commands, Over}
 use Rattle.listing.specs.declared.Stepped.{Stepped}
 use Rattle.listing.specs.Stepping.{stepIn, stepRoom, Stepping}
-use Rattle.stepping.specs.Parts.{Did}
+use Rattle.stepping.specs.Inner.{Did}
 use Rattle.stepping.proofs.Doing.{did-nothing}
 use Rattle.stepping.proofs.Choosing.{step-kept, step-room, step-done, did-long}
 use borrow.Author.Needs.{needs}

@@ -1,4 +1,4 @@
--- `stepping::commands::called` meets its contract.
+-- `stepping::commands::called` meets its contract: a call that went changes the state, a refused one puts its number.
 use native.Mathlib.Omega.{arith}
 use denote.Ref.{now}
 use Rattle.lines.proofs.Putting.{line-long}

@@ -1,4 +1,4 @@
--- `stepping::commands::command_line` meets its contract.
+-- `stepping::commands::command_line` meets its contract: case by case of the line.
 use Rattle.stepping.proofs.Choosing.{arrive-line, done-line, advance-line, command-other, did-as, did-long}
 use borrow.Author.Needs.{needs}
 use Rattle.stepping.proofs.commands.command_line.Statement.{statement}

@@ -1,4 +1,4 @@
--- `stepping::commands::command_step` meets its contract.
+-- `stepping::commands::command_step` meets its contract: the line that comes next, or the end.
 use native.Mathlib.Omega.{arith}
 use denote.Ref.{now}
 use Rattle.stepping.proofs.Choosing.{commands-left, commands-end, commands-line, did-as, did-long}

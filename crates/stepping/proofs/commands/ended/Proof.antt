@@ -1,4 +1,4 @@
--- `stepping::commands::ended` meets its contract.
+-- `stepping::commands::ended` meets its contract: the last line is put, and nothing comes behind it.
 use mathlib.Core.Path.{sym, ap}
 use native.Mathlib.Omega.{arith}
 use Rattle.lines.proofs.Putting.{line-long}

@@ -1,4 +1,4 @@
--- `stepping::commands::walked` meets its contract.
+-- `stepping::commands::walked` meets its contract: a walk that went puts its lines, a refused one its number.
 use mathlib.Core.Path.{refl}
 use native.Mathlib.Omega.{arith}
 use Rattle.lines.proofs.Putting.{line-long}

@@ -1,4 +1,4 @@
--- `stepping::input::next_line` meets its contract.
+-- `stepping::input::next_line` meets its contract: the line ends where its length says.
 use native.Mathlib.Omega.{arith}
 use denote.Ref.{now}
 use Rattle.steps.proofs.Inputs.{next-none, next-some}

@@ -1,4 +1,4 @@
--- `stepping::put::stopped` meets its contract.
+-- `stepping::put::stopped` meets its contract: the number is put, and nothing comes behind it.
 use native.Mathlib.Omega.{arith}
 use Rattle.lines.proofs.Putting.{line-long}
 use Rattle.stepping.proofs.Doing.{did-line, stop-told}

@@ -1,4 +1,4 @@
--- `stepping::tables::checked` meets its contract.
+-- `stepping::tables::checked` meets its contract: a table that went makes a fresh state, a refused one stops the program.
 use mathlib.Core.Path.{refl, ap}
 use denote.Ref.{now}
 use Rattle.rules.specs.Refusals.{numberOf}

@@ -1,4 +1,4 @@
--- `stepping::tables::frame_step` meets its contract.
+-- `stepping::tables::frame_step` meets its contract: the first line makes a frame, or stops the program.
 use mathlib.Core.Path.{_∙_}
 use native.Mathlib.Omega.{arith}
 use denote.Ref.{now}

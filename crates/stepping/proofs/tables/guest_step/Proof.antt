@@ -1,4 +1,4 @@
--- `stepping::tables::guest_step` meets its contract.
+-- `stepping::tables::guest_step` meets its contract: a guest line makes a guest, any other has the table checked.
 use mathlib.Core.Path.{_∙_}
 use denote.Ref.{now}
 use Rattle.stepping.proofs.Doing.{did-nothing}

@@ -1,4 +1,4 @@
--- `stepping::tables::with_guest` meets its contract.
+-- `stepping::tables::with_guest` meets its contract: a guest in the place behind the others, where there is one.
 use native.Mathlib.Omega.{arith}
 use Rattle.laws.proofs.Places.{length-mapped}
 use Rattle.stepping.proofs.Doing.{guest-placed, guest-too-many}

@@ -8,7 +8,7 @@ use lib.Dec.{ltb}
 use lib.ListN.{length, getD}
 use Rattle.rules.specs.Limits.{guestPlaces}
 use Rattle.rules.specs.declared.Guest.{Guest as GuestPlace}
-use Rattle.order.proofs.Choosing.{Searched, searched-start, searched-more, searched-end, either-inside}
+use Rattle.time.proofs.Searching.{Searched, searched-start, searched-more, searched-end, either-inside}
 use Rattle.time.specs.Inner.{Mirrors}
 use borrow.Author.Needs.{needs}
 use Rattle.time.proofs.dues.soonest.Statement.{statement}
