@@ -2,8 +2,6 @@
 use mathlib.Core.Path.{_≡_}
 use mathlib.Core.List.{List, [], _∷_}
 use Prim.Native.Nat.{ℕ, _<_}
-use Rattle.reader.specs.declared.Pair.{Pair}
-use Rattle.reader.specs.declared.Trailer.{Trailer}
 use Rattle.reader.specs.Contracts.{numberAt, behindOf, NumberRead, EntryRead, TrailerRead}
 
 -- two bytes, H = 67,305,985, offset 134,678,021, n = 2,569, edition 3,083

@@ -13,7 +13,7 @@ use Rattle.rules.specs.Model.{guest, spare}
 use Rattle.rules.specs.Steps.{ownBudget, spareOf, runs, burns, nothing, limited, endless, portion}
 use Rattle.rules.specs.Places.{packed, freshState, noState}
 use Rattle.rules.specs.Calls.{Call, arrives, finishes, advances, asks, asksActive, asksMargin, named, portionOf, numberGiven, stateAfter, run, Arrived, Finished, Advanced, AskedFor, ActiveTold, MarginTold, Freshened, TableChecked, NoTableMade, NumberTold}
-use Rattle.rules.specs.Samples.{_by_, running, resting, leftovers, sampleOf, sample, withFirst, withSecond, withSpares, withCount, withTable, lone, crowded}
+use Rattle.rules.specs.Samples.{_by_, running, resting, leftovers, sampleOf, sample, withFirst, withCount, lone, crowded}
 use Rattle.rules.specs.HeldTable.{counted}
 use Rattle.rules.specs.HeldSteps.{then}
 

@@ -7,9 +7,8 @@ use Rattle.rules.specs.declared.Guest.{Guest as GuestPlace}
 use Rattle.rules.specs.declared.Spare.{Spare as SparePlace}
 use Rattle.rules.specs.declared.State.{State}
 use Rattle.rules.specs.Model.{guest, spare}
-use Rattle.rules.specs.Places.{packed}
 use Rattle.rules.specs.Sound.{sound}
-use Rattle.rules.specs.Samples.{_by_, table, running, resting, leftovers, sampleOf, sample, withFirst, withSecond, withSpares, withIdle, withLastGuest, withLastSpare, withCount, withTable, lone, crowded, overcounted, leftAt}
+use Rattle.rules.specs.Samples.{_by_, sample, withFirst, withSecond, withSpares, withIdle, withLastGuest, withLastSpare, withCount, withTable, lone, crowded, overcounted, leftAt}
 use Rattle.rules.specs.HeldTable.{counted, lastPlace, sixteen}
 
 -- a guest's place

@@ -2,13 +2,12 @@
 use mathlib.Core.Path.{_≡_}
 use mathlib.Core.Bool.{true, false}
 use mathlib.Core.List.{List, [], _∷_, map}
-use Prim.Native.Nat.{ℕ, suc}
+use Prim.Native.Nat.{ℕ}
 use lib.IntN.{pos, negsuc}
-use lib.ListN.{length, replicate}
-use Rattle.rules.specs.declared.State.{State}
+use lib.ListN.{replicate}
 use Rattle.rules.specs.Model.{Guest, guest, Spare, spare, Model, budgetOf, jobsOf, leftOf, deadlineOf, ownOf, lentOf, talliesOf, dueOf, ownerOf, capacityOf, active, idleGuest, guestAt, spareAt, maskOf, activeCount, occupied, tallies}
 use Rattle.rules.specs.Steps.{wake, join, arrive, before, insertSpare, finish, leave, done, renew, renewed, nobody, picked, ready, sooner, earliest, ownBudget, spareOf, runs, burns, nothing, limited, endless, portion, useOf, spanOf, portionFor, spend, ran, charge, tick, advance, ask, margin}
-use Rattle.rules.specs.Places.{model, packed, freshState, noState}
+use Rattle.rules.specs.Places.{model, freshState, noState}
 use Rattle.rules.specs.Samples.{_by_, table, running, resting, leftovers, sampleOf, sampleModel, sample}
 use Rattle.rules.specs.HeldTable.{sixteen, counted}
 use Rattle.rules.specs.HeldSound.{place, listed}

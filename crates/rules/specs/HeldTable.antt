@@ -1,6 +1,6 @@
 -- Rows that hold `Refusals` and `Table`: both sides of each bound, and of two refusals the smaller one.
 use mathlib.Core.Path.{_≡_}
-use mathlib.Core.Bool.{Bool, true, false}
+use mathlib.Core.Bool.{true, false}
 use mathlib.Core.List.{List, [], _∷_, map}
 use Prim.Native.Nat.{ℕ}
 use lib.ListN.{length, set}

@@ -1,9 +1,8 @@
 -- Rows that hold `Lines` and `Walks`: portions of every use, the lines of an advance, and whole outcomes of a walk.
 use mathlib.Core.Path.{_≡_}
-use mathlib.Core.List.{List, [], _∷_, map}
+use mathlib.Core.List.{[], _∷_, map}
 use Prim.Native.Nat.{ℕ}
 use lib.ListN.{length, replicate}
-use Rattle.rules.specs.declared.State.{State}
 use Rattle.rules.specs.declared.Refusal.the-variants.{EndOfTime}
 use Rattle.rules.specs.declared.Answer.the-variants.{Went, Refused}
 use Rattle.rules.specs.declared.Source.the-variants.{Own, SpareOf}
@@ -16,7 +15,7 @@ use Rattle.rules.specs.Places.{packed}
 use Rattle.rules.specs.Calls.{arrives, finishes, advances, asks, asksActive, asksMargin}
 use Rattle.rules.specs.Lines.{line, ticksOn, lines, linesOf, listing}
 use Rattle.rules.specs.Walks.{ticksIn, declaredUse, useIn, noLine, walkLines, walkState, walkLeft, Walked}
-use Rattle.rules.specs.Samples.{running, resting, leftovers, sampleModel, sample, lone}
+use Rattle.rules.specs.Samples.{resting, sampleModel, sample, lone}
 use Rattle.rules.specs.HeldSteps.{of, at10, then}
 
 -- a line in its place

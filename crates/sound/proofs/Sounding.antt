@@ -106,9 +106,6 @@ module _ (s : State) (good : goodTable (s .table) ≡ true) (few : s .count ≤ 
       && rising xs
       && leb (s .count + activeCount (inUse n (s .guests))) sparePlaces
 
-  abbrev pub Rest : Bool
-  Rest = every guestPlaceIsZero (drop n (s .guests)) && every sparePlaceIsZero (drop (s .count) (s .spares))
-
   module _ (he : length (s .table .entries) ≡ guestPlaces) (hg : length (s .guests) ≡ guestPlaces) (hs : length (s .spares) ≡ sparePlaces) (hn : n ≤ guestPlaces) where
     same-length : length (take n (s .table .entries)) ≡ length (take n (s .guests))
     same-length = length-take-le n (s .table .entries) (omega arith) ∙ sym (length-take-le n (s .guests) (omega arith))
