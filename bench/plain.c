@@ -21,7 +21,7 @@ struct entry { uint64_t budget, period; };
 
 struct table { uint64_t frame; size_t count; struct entry entries[GUEST_PLACES]; };
 
-struct guest { uint64_t jobs, left, deadline, own, lent; };
+struct guest { uint64_t jobs, current, deadline, own, borrowed; };
 
 struct spare { uint64_t deadline; size_t owner; uint64_t capacity; };
 
@@ -29,9 +29,9 @@ struct state {
     struct table table;
     uint64_t now;
     struct guest guests[GUEST_PLACES];
-    size_t count;
+    size_t listed;
     struct spare spares[SPARE_PLACES];
-    uint64_t burned, idle;
+    uint64_t burned, empty;
 };
 
 /* What the next tick would do. */
@@ -81,24 +81,24 @@ static uint64_t last_deadline(const struct state *s)
 
 static bool guest_holds(const struct entry *e, const struct guest *g, uint64_t last)
 {
-    if (g->jobs > MOST_JOBS || g->left > e->budget || g->deadline > last)
+    if (g->jobs > MOST_JOBS || g->current > e->budget || g->deadline > last)
         return false;
-    if (g->jobs == 0 && g->left != 0)
+    if (g->jobs == 0 && g->current != 0)
         return false;
-    return g->own <= LAST_TICK && g->lent <= LAST_TICK; /* so that their sum does not wrap */
+    return g->own <= LAST_TICK && g->borrowed <= LAST_TICK; /* so that their sum does not wrap */
 }
 
 /* The guests, their tallies, and the room that the active ones take. */
 static bool guests_hold(const struct state *s)
 {
     uint64_t last = last_deadline(s);
-    uint64_t ticks = s->burned + s->idle;
-    size_t taken = s->count;
+    uint64_t ticks = s->burned + s->empty;
+    size_t taken = s->listed;
     for (size_t i = 0; i < s->table.count; i++) {
         const struct guest *g = &s->guests[i];
         if (!guest_holds(&s->table.entries[i], g, last))
             return false;
-        ticks += g->own + g->lent;
+        ticks += g->own + g->borrowed;
         taken += g->jobs != 0;
     }
     return ticks == s->now && taken <= SPARE_PLACES;
@@ -122,7 +122,7 @@ static bool spare_holds(const struct state *s, const struct spare *x, uint64_t l
 static bool spares_hold(const struct state *s)
 {
     uint64_t last = last_deadline(s);
-    for (size_t i = 0; i < s->count; i++) {
+    for (size_t i = 0; i < s->listed; i++) {
         if (!spare_holds(s, &s->spares[i], last))
             return false;
         if (i > 0 && !comes_before(&s->spares[i - 1], &s->spares[i]))
@@ -135,7 +135,7 @@ static bool other_guests_zero(const struct state *s)
 {
     for (size_t i = s->table.count; i < GUEST_PLACES; i++) {
         const struct guest *g = &s->guests[i];
-        if (g->jobs != 0 || g->left != 0 || g->deadline != 0 || g->own != 0 || g->lent != 0)
+        if (g->jobs != 0 || g->current != 0 || g->deadline != 0 || g->own != 0 || g->borrowed != 0)
             return false;
     }
     return true;
@@ -143,7 +143,7 @@ static bool other_guests_zero(const struct state *s)
 
 static bool other_spares_zero(const struct state *s)
 {
-    for (size_t i = s->count; i < SPARE_PLACES; i++) {
+    for (size_t i = s->listed; i < SPARE_PLACES; i++) {
         const struct spare *x = &s->spares[i];
         if (x->deadline != 0 || x->owner != 0 || x->capacity != 0)
             return false;
@@ -153,9 +153,9 @@ static bool other_spares_zero(const struct state *s)
 
 static bool is_sound(const struct state *s)
 {
-    if (check_table(&s->table) != WENT || s->count > SPARE_PLACES || s->now > LAST_TICK)
+    if (check_table(&s->table) != WENT || s->listed > SPARE_PLACES || s->now > LAST_TICK)
         return false;
-    if (s->burned > LAST_TICK || s->idle > LAST_TICK)
+    if (s->burned > LAST_TICK || s->empty > LAST_TICK)
         return false;
     return guests_hold(s) && spares_hold(s) && other_guests_zero(s) && other_spares_zero(s);
 }
@@ -192,14 +192,14 @@ static enum answer arrive(struct state *s, size_t i)
         g->jobs++;
         return WENT;
     }
-    if (s->count + active_guests(s) == SPARE_PLACES)
+    if (s->listed + active_guests(s) == SPARE_PLACES)
         return NO_ROOM;
     uint64_t from = g->deadline > s->now ? g->deadline : s->now;
     uint64_t deadline = from + s->table.entries[i].period;
     if (deadline > DEADLINE_CAP)
         return DEADLINE_TOO_FAR;
     g->jobs = 1;
-    g->left = s->table.entries[i].budget;
+    g->current = s->table.entries[i].budget;
     g->deadline = deadline;
     return WENT;
 }
@@ -207,11 +207,11 @@ static enum answer arrive(struct state *s, size_t i)
 static void insert_spare(struct state *s, struct spare x)
 {
     size_t at = 0;
-    while (at < s->count && comes_before(&s->spares[at], &x))
+    while (at < s->listed && comes_before(&s->spares[at], &x))
         at++;
-    memmove(&s->spares[at + 1], &s->spares[at], (s->count - at) * sizeof x);
+    memmove(&s->spares[at + 1], &s->spares[at], (s->listed - at) * sizeof x);
     s->spares[at] = x;
-    s->count++;
+    s->listed++;
 }
 
 static enum answer done(struct state *s, size_t i)
@@ -224,9 +224,9 @@ static enum answer done(struct state *s, size_t i)
     if (g->jobs == 0)
         return GUEST_IDLE;
     g->jobs--;
-    if (g->jobs == 0 && g->left > 0) {
-        insert_spare(s, (struct spare){ g->deadline, i, g->left });
-        g->left = 0;
+    if (g->jobs == 0 && g->current > 0) {
+        insert_spare(s, (struct spare){ g->deadline, i, g->current });
+        g->current = 0;
     }
     return WENT;
 }
@@ -239,7 +239,7 @@ static size_t earliest(const struct state *s, uint64_t *deadline)
         const struct guest *g = &s->guests[i];
         if (g->jobs == 0)
             continue;
-        uint64_t d = g->left > 0 ? g->deadline : g->deadline + s->table.entries[i].period;
+        uint64_t d = g->current > 0 ? g->deadline : g->deadline + s->table.entries[i].period;
         if (best == GUEST_PLACES || d < *deadline) {
             best = i;
             *deadline = d;
@@ -253,14 +253,14 @@ static struct next next_portion(const struct state *s)
     const struct spare *x = &s->spares[0];
     uint64_t deadline = 0;
     size_t i = earliest(s, &deadline);
-    if (i == GUEST_PLACES && s->count == 0)
+    if (i == GUEST_PLACES && s->listed == 0)
         return (struct next){ NOTHING, 0, 0, 0, 0 };
     if (i == GUEST_PLACES)
         return (struct next){ BURN, 0, x->owner, x->deadline, x->capacity };
-    if (s->count > 0 && x->deadline <= deadline)
+    if (s->listed > 0 && x->deadline <= deadline)
         return (struct next){ RUN_SPARE, i, x->owner, x->deadline, x->capacity };
-    uint64_t left = s->guests[i].left;
-    return (struct next){ RUN_OWN, i, i, deadline, left > 0 ? left : s->table.entries[i].budget };
+    uint64_t current = s->guests[i].current;
+    return (struct next){ RUN_OWN, i, i, deadline, current > 0 ? current : s->table.entries[i].budget };
 }
 
 static enum answer ask(const struct state *s, struct next *n)
@@ -277,8 +277,8 @@ static void renew_guests(struct state *s)
 {
     for (size_t i = 0; i < s->table.count; i++) {
         struct guest *g = &s->guests[i];
-        if (g->jobs > 0 && g->left == 0) {
-            g->left = s->table.entries[i].budget;
+        if (g->jobs > 0 && g->current == 0) {
+            g->current = s->table.entries[i].budget;
             g->deadline += s->table.entries[i].period;
         }
     }
@@ -289,9 +289,9 @@ static void charge_spare(struct state *s, uint64_t ticks)
     s->spares[0].capacity -= ticks;
     if (s->spares[0].capacity > 0)
         return;
-    s->count--;
-    memmove(&s->spares[0], &s->spares[1], s->count * sizeof s->spares[0]);
-    s->spares[s->count] = (struct spare){ 0, 0, 0 };
+    s->listed--;
+    memmove(&s->spares[0], &s->spares[1], s->listed * sizeof s->spares[0]);
+    s->spares[s->listed] = (struct spare){ 0, 0, 0 };
 }
 
 /* One portion, of at most k ticks; says how many it took. */
@@ -303,19 +303,19 @@ static uint64_t run_portion(struct state *s, uint64_t k)
     struct guest *g = &s->guests[n.guest];
     switch (n.kind) {
     case RUN_OWN:
-        g->left -= ticks;
+        g->current -= ticks;
         g->own += ticks;
         break;
     case RUN_SPARE:
         charge_spare(s, ticks);
-        g->lent += ticks;
+        g->borrowed += ticks;
         break;
     case BURN:
         charge_spare(s, ticks);
         s->burned += ticks;
         break;
     case NOTHING:
-        s->idle += ticks;
+        s->empty += ticks;
         break;
     }
     s->now += ticks;
@@ -381,7 +381,7 @@ static uint64_t mixed(uint64_t sum, uint64_t x)
 static uint64_t guests_mixed(uint64_t sum, const struct guest *g)
 {
     for (size_t i = 0; i < GUEST_PLACES; i++)
-        sum = mixed(mixed(mixed(mixed(mixed(sum, g[i].jobs), g[i].left), g[i].deadline), g[i].own), g[i].lent);
+        sum = mixed(mixed(mixed(mixed(mixed(sum, g[i].jobs), g[i].current), g[i].deadline), g[i].own), g[i].borrowed);
     return sum;
 }
 
@@ -394,7 +394,7 @@ static uint64_t spares_mixed(uint64_t sum, const struct spare *x)
 
 static uint64_t state_digest(uint64_t sum, const struct state *s)
 {
-    sum = mixed(mixed(mixed(mixed(sum, s->now), s->count), s->burned), s->idle);
+    sum = mixed(mixed(mixed(mixed(sum, s->now), s->listed), s->burned), s->empty);
     return spares_mixed(guests_mixed(sum, s->guests), s->spares);
 }
 

@@ -82,10 +82,10 @@ fn refused() -> Vec<Fixed> {
     // An idle guest has no budget.
     let unsound = with_guest(one(), 0, 0, 1, 0);
     let everywhere_1 = "arrive refusal = 1, done refusal = 1, advance refusal = 1, walk refusal = 1, ask refusal = 1, \
-                        active refusal = 1, margin refusal = 1, arrive guest 0 left = 1, walk left = 0, ask kind = 0";
+                        active refusal = 1, margin refusal = 1, arrive guest 0 current = 1, walk left = 0, ask kind = 0";
     let no_guest = "arrive refusal = 2, done refusal = 2, margin refusal = 2, ask refusal = 0";
-    let idle = "done refusal = 3, arrive refusal = 0, arrive guest 0 deadline = 6, arrive guest 0 left = 3";
-    let one_more = "arrive refusal = 0, arrive guest 0 jobs = 255, arrive guest 0 left = 3";
+    let idle = "done refusal = 3, arrive refusal = 0, arrive guest 0 deadline = 6, arrive guest 0 current = 3";
+    let one_more = "arrive refusal = 0, arrive guest 0 jobs = 255, arrive guest 0 current = 3";
     let no_more = "arrive refusal = 4, arrive guest 0 jobs = 255, done guest 0 jobs = 254";
     let jobs = |jobs| with_guest(one(), 0, jobs, 3, 6);
     vec![
@@ -130,7 +130,7 @@ fn far() -> Vec<Fixed> {
 fn ends() -> Vec<Fixed> {
     let last = || idle_until(1 << 40, 6, &[(3, 6)]);
     let stays = "advance refusal = 0, walk refusal = 0, advance state now = 1099511627776";
-    let past = "advance refusal = 7, walk refusal = 7, walk left = 0, walk count = 0";
+    let past = "advance refusal = 7, walk refusal = 7, walk left = 0, walk shown = 0";
     let spares = |first: u64| {
         let start = with_guest(idle_until(0, 1, &[(1, 1)]), 0, 0, 0, 64);
         (first..=64).fold(start, |state, deadline| with_spare(state, 0, 1, deadline))
@@ -138,7 +138,7 @@ fn ends() -> Vec<Fixed> {
     let mut one_burned = spares(2);
     one_burned.now = 1;
     one_burned.burning_ticks = 1;
-    let full = "arrive refusal = 5, advance state spares = 63, advance state burned = 1";
+    let full = "arrive refusal = 5, advance state listed = 63, advance state burned = 1";
     let room = "arrive refusal = 0, arrive guest 0 deadline = 65";
     vec![
         case("advance 0 at tick 2^40", last(), 0, 0, stays),
@@ -151,15 +151,15 @@ fn ends() -> Vec<Fixed> {
 fn steps() -> Vec<Fixed> {
     let one = || idle_until(3, 6, &[(3, 6)]);
     let woken = with_guest(one(), 0, 1, 3, 9);
-    let leaves = "done guest 0 left = 0, done guest 0 jobs = 0, done state spares = 1, done spare 0 capacity = 3, \
+    let leaves = "done guest 0 current = 0, done guest 0 jobs = 0, done state listed = 1, done spare 0 capacity = 3, \
                   done spare 0 deadline = 9, done spare 0 owner = 0";
     let mut spent = with_guest(one(), 0, 1, 0, 9);
     spent.now = 6;
     spent.guests[0].own_ticks = 3;
-    let renewed = "advance guest 0 deadline = 15, advance guest 0 left = 2, ask deadline = 15, ask span = 3, \
-                   done guest 0 deadline = 9, done state spares = 0, margin ticks = 3";
+    let renewed = "advance guest 0 deadline = 15, advance guest 0 current = 2, ask deadline = 15, ask span = 3, \
+                   done guest 0 deadline = 9, done state listed = 0, margin ticks = 3";
     let waiting = with_guest(idle_until(0, 4, &[(3, 4)]), 0, 1, 3, 8);
-    let lent = "advance spare 0 capacity = 2, advance guest 0 left = 3, advance guest 0 lent = 1, advance guest 0 own = 0, \
+    let borrowed = "advance spare 0 capacity = 2, advance guest 0 current = 3, advance guest 0 borrowed = 1, advance guest 0 own = 0, \
                 ask kind = 2, ask guest = 0, ask owner = 0, ask deadline = 4, ask span = 3";
     vec![
         case("a leftover", woken, 0, 0, leaves),
@@ -169,7 +169,7 @@ fn steps() -> Vec<Fixed> {
             with_spare(waiting, 0, 3, 4),
             0,
             1,
-            lent,
+            borrowed,
         ),
     ]
 }
@@ -180,11 +180,11 @@ fn ties() -> Vec<Fixed> {
         with_guest(one, 1, 1, second, 6 + second)
     };
     let lowest =
-        "ask kind = 1, ask guest = 0, active mask = 3, active count = 2, advance guest 0 own = 1";
+        "ask kind = 1, ask guest = 0, active mask = 3, active actives = 2, advance guest 0 own = 1";
     let sooner =
         "ask kind = 1, ask guest = 1, ask deadline = 7, ask span = 1, advance guest 1 own = 1";
     let second = with_guest(idle_until(0, 8, &[(2, 8), (2, 8)]), 1, 1, 2, 8);
-    let one = "active mask = 2, active count = 1, ask guest = 1, margin ticks = 8";
+    let one = "active mask = 2, active actives = 1, ask guest = 1, margin ticks = 8";
     vec![
         case("equal deadlines", both(2, 2), 1, 1, lowest),
         case("the sooner deadline", both(2, 1), 1, 1, sooner),
@@ -195,13 +195,13 @@ fn ties() -> Vec<Fixed> {
 fn walks() -> Vec<Fixed> {
     let start = with_guest(idle_until(0, 8, &[(3, 4), (2, 8)]), 0, 1, 3, 4);
     // After three ticks guest 0 is renewed with deadline 8, as guest 1 has it: the lowest number.
-    let own = "walk count = 2, walk portion 0 first = 0, walk portion 0 end = 3, walk portion 0 kind = 1, walk portion 1 first = 3, \
-               walk portion 1 end = 4, walk portion 1 kind = 1, walk portion 1 guest = 0, walk portion 2 end = 0, walk left = 0";
+    let own = "walk shown = 2, walk line 0 first = 0, walk line 0 end = 3, walk line 0 kind = 1, walk line 1 first = 3, \
+               walk line 1 end = 4, walk line 1 kind = 1, walk line 1 guest = 0, walk line 2 end = 0, walk left = 0";
     let idle = with_guest(idle_until(0, 4, &[(3, 4)]), 0, 0, 0, 4);
-    let burns = "walk count = 2, walk portion 0 end = 3, walk portion 0 kind = 3, walk portion 0 owner = 0, walk portion 1 end = 5, \
-                 walk portion 1 kind = 0, walk state burned = 3, walk state idle = 2, ask kind = 3, ask span = 3, ask deadline = 4";
+    let burns = "walk shown = 2, walk line 0 end = 3, walk line 0 kind = 3, walk line 0 owner = 0, walk line 1 end = 5, \
+                 walk line 1 kind = 0, walk state burned = 3, walk state empty = 2, ask kind = 3, ask span = 3, ask deadline = 4";
     let always = with_guest(idle_until(0, 1, &[(1, 1)]), 0, 1, 1, 1);
-    let many = "walk count = 64, walk left = 6, walk state now = 64, advance state now = 70";
+    let many = "walk shown = 64, walk left = 6, walk state now = 64, advance state now = 70";
     vec![
         case(
             "two portions of a guest",

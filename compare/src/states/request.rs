@@ -271,7 +271,7 @@ impl StateAnswers {
         let call = "walk";
         let mut told = Teller { call, sink };
         told.number("left", self.walk.left);
-        told.number("count", self.walk.portions.len() as u64);
+        told.number("shown", self.walk.portions.len() as u64);
         (0..PORTION_PLACES).for_each(|place| told.portion(place, self.walk.portions.get(place)));
         let call = "ask";
         let mut told = Teller { call, sink };
@@ -281,7 +281,7 @@ impl StateAnswers {
         let mut told = Teller { call, sink };
         told.number("refusal", self.active.refusal.into());
         told.number("mask", self.active.value.mask.into());
-        told.number("count", self.active.value.count.into());
+        told.number("actives", self.active.value.count.into());
         let call = "margin";
         let mut told = Teller { call, sink };
         told.number("refusal", self.margin.refusal.into());

@@ -107,10 +107,10 @@ impl<Told: Sink> Teller<'_, Told> {
         for (place, guest) in state.guests.iter().enumerate() {
             let numbers = [
                 ("jobs", guest.jobs),
-                ("left", guest.current_budget),
+                ("current", guest.current_budget),
                 ("deadline", guest.deadline),
                 ("own", guest.own_ticks),
-                ("lent", guest.spare_ticks),
+                ("borrowed", guest.spare_ticks),
             ];
             self.fields("guest", place, &numbers);
         }
@@ -123,9 +123,9 @@ impl<Told: Sink> Teller<'_, Told> {
             self.fields("spare", place, &numbers);
         }
         self.named("state", None, "now", state.now);
-        self.named("state", None, "spares", state.spare_count);
+        self.named("state", None, "listed", state.spare_count);
         self.named("state", None, "burned", state.burning_ticks);
-        self.named("state", None, "idle", state.nothing_ticks);
+        self.named("state", None, "empty", state.nothing_ticks);
     }
 
     pub fn portion(&mut self, place: usize, portion: Option<&Portion>) {
@@ -138,7 +138,7 @@ impl<Told: Sink> Teller<'_, Told> {
             ("guest", guest),
             ("owner", owner),
         ];
-        self.fields("portion", place, &numbers);
+        self.fields("line", place, &numbers);
     }
 
     pub fn ask(&mut self, answer: Ask) {

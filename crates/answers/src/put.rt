@@ -77,7 +77,11 @@ fn put_guests(guests: [Guest; GUEST_PLACES], buffer: &mut [u8], filled: usize) -
     let mut i: usize = 0;
     while i < GUEST_PLACES {
         let g = guests[i];
-        at = put_numbers(&[g.jobs, g.left, g.deadline, g.own, g.lent], buffer, at);
+        at = put_numbers(
+            &[g.jobs, g.current, g.deadline, g.own, g.borrowed],
+            buffer,
+            at,
+        );
         i = i + 1;
     }
     at
@@ -102,7 +106,7 @@ pub(crate) fn put_state(s: State, buffer: &mut [u8], filled: usize) -> usize {
     let guests_end = put_guests(guests, buffer, table_end);
     let spares_end = put_spares(spares, buffer, guests_end);
     put_numbers(
-        &[s.now, s.count as u64, s.burned, s.idle],
+        &[s.now, s.listed as u64, s.burned, s.empty],
         buffer,
         spares_end,
     )

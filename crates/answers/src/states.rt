@@ -65,7 +65,7 @@ fn put_walk(w: Walk, buffer: &mut [u8], filled: usize) -> usize {
     let state = w.state;
     let lines = w.lines;
     let stepped = put_outcome(Outcome { answer, state }, buffer, filled);
-    let told = put_numbers(&[w.left, w.count as u64], buffer, stepped);
+    let told = put_numbers(&[w.left, w.shown as u64], buffer, stepped);
     put_lines(lines, buffer, told)
 }
 
@@ -90,7 +90,7 @@ fn put_asked(asked: Asked, buffer: &mut [u8], filled: usize) -> usize {
 fn put_activity(told: Activity, buffer: &mut [u8], filled: usize) -> usize {
     let answer = told.answer;
     let at = put_answer(answer, buffer, filled);
-    put_numbers(&[told.mask as u64, told.count as u64], buffer, at)
+    put_numbers(&[told.mask as u64, told.actives as u64], buffer, at)
 }
 
 fn lowest_bit(x: i64) -> u64 {

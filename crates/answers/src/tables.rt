@@ -16,13 +16,13 @@ const REQUEST_LENGTH: usize = 288;
 
 const BUFFER_PLACES: usize = 200;
 
-fn put_written(t: Table, lent: &mut [u8], buffer: &mut [u8], filled: usize) -> usize {
-    let answer = image::write(t, lent);
+fn put_written(t: Table, borrowed: &mut [u8], buffer: &mut [u8], filled: usize) -> usize {
+    let answer = image::write(t, borrowed);
     let at = put_answer(answer, buffer, filled);
-    put_bytes(lent, buffer, at)
+    put_bytes(borrowed, buffer, at)
 }
 
-fn put_all(t: Table, lent: &mut [u8], buffer: &mut [u8]) -> usize {
+fn put_all(t: Table, borrowed: &mut [u8], buffer: &mut [u8]) -> usize {
     let answer = table::check(t);
     let checked = put_answer(answer, buffer, 0);
     let made = engine::fresh(t);
@@ -30,7 +30,7 @@ fn put_all(t: Table, lent: &mut [u8], buffer: &mut [u8]) -> usize {
     let told = put_answer(answer, buffer, checked);
     let state = made.state;
     let started = put_state(state, buffer, told);
-    put_written(t, lent, buffer, started)
+    put_written(t, borrowed, buffer, started)
 }
 
 pub(crate) fn answered(buffer: &mut [u8]) -> usize {
@@ -46,6 +46,6 @@ pub(crate) fn answered(buffer: &mut [u8]) -> usize {
     }
     let places = length as usize;
     let fill = (number_at(bytes, FILL) % 256) as u8;
-    let mut lent = [fill; BUFFER_PLACES];
-    put_all(table_in(bytes), &mut lent[0..places], buffer)
+    let mut borrowed = [fill; BUFFER_PLACES];
+    put_all(table_in(bytes), &mut borrowed[0..places], buffer)
 }

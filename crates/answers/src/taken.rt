@@ -22,7 +22,7 @@ const SPARE_COUNT: usize = 307;
 
 const BURNED: usize = 308;
 
-const IDLE: usize = 309;
+const EMPTY: usize = 309;
 
 fn entry_at(bytes: &[u8], place: usize) -> Entry
     requires { ⌜ place < 900 ⌝ }
@@ -64,20 +64,20 @@ fn guest_at(bytes: &[u8], place: usize) -> Guest
 {
     Guest {
         jobs: number_at(bytes, place),
-        left: number_at(bytes, place + 1),
+        current: number_at(bytes, place + 1),
         deadline: number_at(bytes, place + 2),
         own: number_at(bytes, place + 3),
-        lent: number_at(bytes, place + 4),
+        borrowed: number_at(bytes, place + 4),
     }
 }
 
 fn guests_in(bytes: &[u8]) -> [Guest; GUEST_PLACES] {
     let none = Guest {
         jobs: 0,
-        left: 0,
+        current: 0,
         deadline: 0,
         own: 0,
-        lent: 0,
+        borrowed: 0,
     };
     let mut guests = [none; GUEST_PLACES];
     let mut i: usize = 0;
@@ -125,14 +125,14 @@ pub(crate) fn state_in(bytes: &[u8]) -> State {
     let now = number_at(bytes, NOW);
     let count = number_at(bytes, SPARE_COUNT);
     let burned = number_at(bytes, BURNED);
-    let idle = number_at(bytes, IDLE);
+    let empty = number_at(bytes, EMPTY);
     State {
         table,
         now,
         guests,
-        count: count as usize,
+        listed: count as usize,
         spares,
         burned,
-        idle,
+        empty,
     }
 }

@@ -4,12 +4,12 @@
 //   1: a state, a guest number and a number of ticks;
 //   2: a table, the length of a buffer (at most 200) and a number whose low byte fills it;
 //   3: the length of an image (at most 65,600) and its bytes.
-// A table is its frame, its count, and budget and period of all 16 places. A state is its table, of each of the 16 guests jobs, left,
-// deadline, own and lent, of each of the 64 spares deadline, owner and capacity, then now, the count of spares, burned and idle: 310 numbers.
+// A table is its frame, its count, and budget and period of all 16 places. A state is its table, of each of the 16 guests jobs, current,
+// deadline, own and borrowed, of each of the 64 spares deadline, owner and capacity, then now, listed, burned and empty: 310 numbers.
 //
 // The answers come in the order of the requests. Each call's answer starts with its refusal number, or 0:
-//   1: arrive, done and advance, each with its state; walk with its state, left, count, and of each of the 64 lines first, end, kind,
-//      guest and owner; ask with kind, guest, owner, deadline and span; active with mask and count; margin with its ticks as the
+//   1: arrive, done and advance, each with its state; walk with its state, left, shown, and of each of the 64 lines first, end, kind,
+//      guest and owner; ask with kind, guest, owner, deadline and span; active with mask and actives; margin with its ticks as the
 //      64 bits of a signed number;
 //   2: check; fresh with its state; write with the buffer's length and its bytes;
 //   3: read with its table; the boot code's number; entries (which has no number) with the length of the part and its bytes.

@@ -33,13 +33,13 @@ module _ (s : State) where
   asked : sound s ≡ true → 0 ≡ first (askRows s)
   asked h = given-later (not (sound s)) 1 [] (ap not h) refl
 
-  pub active-refused : sound s ≡ false → ActiveTold s (record { answer = Refused NotSound; mask = 0; count = 0 })
+  pub active-refused : sound s ≡ false → ActiveTold s (record { answer = Refused NotSound; mask = 0; actives = 0 })
   active-refused h =
       let n = asked-nothing h in
       record {
         answer = n;
         mask = ap (λ (k : ℕ). told k (λ (m : Model). maskOf (m .guests)) 0 s) n;
-        count = ap (λ (k : ℕ). told k (λ (m : Model). activeCount (m .guests)) 0 s) n;
+        actives = ap (λ (k : ℕ). told k (λ (m : Model). activeCount (m .guests)) 0 s) n;
       }
 
   module _ (h : sound s ≡ true) (he : length (s .table .entries) ≡ guestPlaces) (hg : length (s .guests) ≡ guestPlaces) {mask : ℕ} (e : mask ≡ maskOf (inUse (s .table .count) (s .guests))) where
@@ -50,11 +50,11 @@ module _ (s : State) where
         let n = s .table .count in
         e ∙ mask-shown (take n (s .table .entries)) (take n (s .guests)) (length-take-le n (s .table .entries) (omega (arith, fits, he)) ∙ sym (length-take-le n (s .guests) (omega (arith, fits, hg))))
 
-    pub active-told : {count : ℕ} → count ≡ ones mask → ActiveTold s (record { answer = Went; mask = mask; count = count })
+    pub active-told : {count : ℕ} → count ≡ ones mask → ActiveTold s (record { answer = Went; mask = mask; actives = count })
     active-told {count} f =
         let n = asked h in
         record {
           answer = n;
           mask = mask-told ∙ ap (λ (k : ℕ). told k (λ (m : Model). maskOf (m .guests)) 0 s) n;
-          count = count-active (model s .guests) mask-told f ∙ ap (λ (k : ℕ). told k (λ (m : Model). activeCount (m .guests)) 0 s) n;
+          actives = count-active (model s .guests) mask-told f ∙ ap (λ (k : ℕ). told k (λ (m : Model). activeCount (m .guests)) 0 s) n;
         }

@@ -33,14 +33,14 @@ module _ (e : Entry) (g : GuestPlace) where
   pub idle-known : g .jobs ≤ 0 → idleGuest (guestOf e g) ≡ true
   idle-known h = go (g .jobs) h
     where
-      go : (j : ℕ) → j ≤ 0 → idleGuest (guest (e .budget) (e .period) j (g .left) (g .deadline) (g .own) (g .lent)) ≡ true
+      go : (j : ℕ) → j ≤ 0 → idleGuest (guest (e .budget) (e .period) j (g .current) (g .deadline) (g .own) (g .borrowed)) ≡ true
       go zero h = refl
       go (suc j) h = absurd (omega arith)
 
   pub active-known : 0 < g .jobs → idleGuest (guestOf e g) ≡ false
   active-known h = go (g .jobs) h
     where
-      go : (j : ℕ) → 0 < j → idleGuest (guest (e .budget) (e .period) j (g .left) (g .deadline) (g .own) (g .lent)) ≡ false
+      go : (j : ℕ) → 0 < j → idleGuest (guest (e .budget) (e .period) j (g .current) (g .deadline) (g .own) (g .borrowed)) ≡ false
       go zero h = absurd (omega arith)
       go (suc j) h = refl
 
@@ -48,20 +48,20 @@ module _ (e : Entry) (g : GuestPlace) where
   pub wakes : (now : ℕ) → g .jobs ≤ 0 → wake now (guestOf e g) ≡ join now (guestOf e g)
   wakes now h = go (g .jobs) h
     where
-      go : (j : ℕ) → j ≤ 0 → wake now (guest (e .budget) (e .period) j (g .left) (g .deadline) (g .own) (g .lent)) ≡ join now (guest (e .budget) (e .period) j (g .left) (g .deadline) (g .own) (g .lent))
+      go : (j : ℕ) → j ≤ 0 → wake now (guest (e .budget) (e .period) j (g .current) (g .deadline) (g .own) (g .borrowed)) ≡ join now (guest (e .budget) (e .period) j (g .current) (g .deadline) (g .own) (g .borrowed))
       go zero h = refl
       go (suc j) h = absurd (omega arith)
 
 -- an active guest has one job more
-pub joins : (e : Entry) (now : ℕ) (j c d own lent : ℕ) → 0 < j
-    → record { jobs = j + 1; left = c; deadline = d; own = own; lent = lent } ≡ guestPlace (join now (guest (e .budget) (e .period) j c d own lent))
-joins e now zero c d own lent h = absurd (omega arith)
-joins e now (suc j) c d own lent h = rw (add-one (suc j))
+pub joins : (e : Entry) (now : ℕ) (j c d own borrowed : ℕ) → 0 < j
+    → record { jobs = j + 1; current = c; deadline = d; own = own; borrowed = borrowed } ≡ guestPlace (join now (guest (e .budget) (e .period) j c d own borrowed))
+joins e now zero c d own borrowed h = absurd (omega arith)
+joins e now (suc j) c d own borrowed h = rw (add-one (suc j))
 
 -- ---- the room
 
 module _ (s : State) (h : sound s ≡ true) where
-  pub occupied-told : {mask count : ℕ} → mask ≡ maskOf (inUse (s .table .count) (s .guests)) → count ≡ ones mask → s .count + count ≡ occupied (model s)
+  pub occupied-told : {mask count : ℕ} → mask ≡ maskOf (inUse (s .table .count) (s .guests)) → count ≡ ones mask → s .listed + count ≡ occupied (model s)
   occupied-told e f =
       let active = count-active (model s .guests) (mask-told s h (entries-long s h) (guests-long s h) e) f in
       ap₂ (λ (a b : ℕ). a + b) (sym (spares-count s h)) active
@@ -114,6 +114,6 @@ module _ (s : State) (i : ℕ) where
 
 module _ (s : State) (h : sound s ≡ true) (i : ℕ) (inside : i < s .table .count) where
   pub arrival-stored : {g : GuestPlace} → g ≡ guestPlace (join (s .now) (Here s i))
-      → record { table = s .table; now = s .now; guests = set (s .guests) i g; count = s .count; spares = s .spares; burned = s .burned; idle = s .idle } ≡ packed (arrive i (model s))
+      → record { table = s .table; now = s .now; guests = set (s .guests) i g; listed = s .listed; spares = s .spares; burned = s .burned; empty = s .empty } ≡ packed (arrive i (model s))
   unfolding arrive model
   arrival-stored e = guest-stored s h i inside (join (s .now)) (entry-join (s .now)) e

@@ -41,7 +41,7 @@ pub(crate) fn woken(e: Entry, g: Guest, now: u64) -> Guest
     let deadline = from + e.period;
     Guest {
         jobs: 1,
-        left: e.budget,
+        current: e.budget,
         deadline,
         ..g
     }
@@ -56,5 +56,5 @@ pub(crate) fn is_full(s: State) -> bool
     let guests = s.guests;
     let mask = order::mask_of(guests, t.count);
     let active = order::count_of(mask);
-    s.count + active as usize == SPARE_PLACES
+    s.listed + active as usize == SPARE_PLACES
 }

@@ -22,24 +22,28 @@ pub(crate) fn finished(g: Guest) -> Guest
 {
     let jobs = g.jobs - 1;
     if jobs == 0 {
-        return Guest { jobs, left: 0, ..g };
+        return Guest {
+            jobs,
+            current: 0,
+            ..g
+        };
     }
     Guest { jobs, ..g }
 }
 
 // With no budget left no spare is made.
 pub(crate) fn leaves(g: Guest) -> bool
-    ensures { λ r. ⌜ r ≡ eqb (g .jobs) 1 && ltb 0 (g .left) ⌝ }
+    ensures { λ r. ⌜ r ≡ eqb (g .jobs) 1 && ltb 0 (g .current) ⌝ }
 {
     let last = g.jobs == 1;
-    let some = 0 < g.left;
+    let some = 0 < g.current;
     last & some
 }
 
 // The leftover is listed and taken from the guest in one state: no state has it twice.
 pub(crate) fn with_leftover(s: State, i: usize) -> Outcome
     requires { ⌜ (sound s ≡ true) × (i < s .table .count) ⌝ }
-    requires { ⌜ eqb (getD (s .guests) i noGuestPlace .jobs) 1 && ltb 0 (getD (s .guests) i noGuestPlace .left) ≡ true ⌝ }
+    requires { ⌜ eqb (getD (s .guests) i noGuestPlace .jobs) 1 && ltb 0 (getD (s .guests) i noGuestPlace .current) ≡ true ⌝ }
     ensures { λ r. ⌜ (r .answer ≡ Answer.Went) × (r .state ≡ packed (done i (model s))) ⌝ }
 {
     let mut guests = s.guests;
@@ -47,17 +51,17 @@ pub(crate) fn with_leftover(s: State, i: usize) -> Outcome
     let leftover = Spare {
         deadline: g.deadline,
         owner: i,
-        capacity: g.left,
+        capacity: g.current,
     };
     let listed = s.spares;
-    let spares = inserted(listed, s.count, leftover);
-    let count = s.count + 1;
+    let spares = inserted(listed, s.listed, leftover);
+    let listed = s.listed + 1;
     guests[i] = finished(g);
     Outcome {
         answer: Answer::Went,
         state: State {
             guests,
-            count,
+            listed,
             spares,
             ..s
         },

@@ -14,10 +14,10 @@ pub(crate) fn started(t: Table) -> State
 {
     let guest = Guest {
         jobs: 0,
-        left: 0,
+        current: 0,
         deadline: 0,
         own: 0,
-        lent: 0,
+        borrowed: 0,
     };
     let spare = Spare {
         deadline: 0,
@@ -28,9 +28,9 @@ pub(crate) fn started(t: Table) -> State
         table: t,
         now: 0,
         guests: [guest; GUEST_PLACES],
-        count: 0,
+        listed: 0,
         spares: [spare; SPARE_PLACES],
         burned: 0,
-        idle: 0,
+        empty: 0,
     }
 }

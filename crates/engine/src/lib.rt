@@ -127,17 +127,17 @@ pub fn active(s: State) -> Activity
         return Activity {
             answer: Answer::Refused(Refusal::NotSound),
             mask: 0,
-            count: 0,
+            actives: 0,
         };
     }
     let t = s.table;
     let guests = s.guests;
     let mask = order::mask_of(guests, t.count);
-    let count = order::count_of(mask);
+    let actives = order::count_of(mask);
     Activity {
         answer: Answer::Went,
         mask,
-        count,
+        actives,
     }
 }
 

@@ -22,7 +22,7 @@ pub(crate) fn refused(s: State, refusal: Refusal) -> Outcome
 // The state with other numbers for guest i.
 pub(crate) fn with_guest(s: State, i: usize, g: Guest) -> Outcome
     requires { ⌜ i < guestPlaces ⌝ }
-    ensures { λ r. ⌜ (r .answer ≡ Answer.Went) × (r .state ≡ record { table = s .table; now = s .now; guests = set (s .guests) i g; count = s .count; spares = s .spares; burned = s .burned; idle = s .idle }) ⌝ }
+    ensures { λ r. ⌜ (r .answer ≡ Answer.Went) × (r .state ≡ record { table = s .table; now = s .now; guests = set (s .guests) i g; listed = s .listed; spares = s .spares; burned = s .burned; empty = s .empty }) ⌝ }
 {
     let mut guests = s.guests;
     guests[i] = g;

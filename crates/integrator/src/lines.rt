@@ -83,7 +83,7 @@ fn write_guest(i: usize, guest: Guest) {
     write_text(b" own ");
     write_number(guest.own);
     write_text(b" spare ");
-    write_number(guest.lent);
+    write_number(guest.borrowed);
     write_text(b"\n");
 }
 
@@ -103,6 +103,6 @@ pub(crate) fn write_end(state: State) {
     write_text(b"burned ");
     write_number(state.burned);
     write_text(b"\nidle ");
-    write_number(state.idle);
+    write_number(state.empty);
     write_text(b"\n");
 }

@@ -51,11 +51,11 @@ emptyState =
     record {
       table = emptyTable;
       now = 0;
-      guests = replicate 16 (record { jobs = 0; left = 0; deadline = 0; own = 0; lent = 0 });
-      count = 0;
+      guests = replicate 16 (record { jobs = 0; current = 0; deadline = 0; own = 0; borrowed = 0 });
+      listed = 0;
       spares = replicate 64 (record { deadline = 0; owner = 0; capacity = 0 });
       burned = 0;
-      idle = 0;
+      empty = 0;
     }
 
 -- what is held once a first line is refused

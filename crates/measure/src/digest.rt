@@ -12,10 +12,10 @@ pub(crate) fn mixed(sum: u64, x: u64) -> u64 {
 
 fn guest_mixed(sum: u64, g: Guest) -> u64 {
     let a = mixed(sum, g.jobs);
-    let b = mixed(a, g.left);
+    let b = mixed(a, g.current);
     let c = mixed(b, g.deadline);
     let d = mixed(c, g.own);
-    mixed(d, g.lent)
+    mixed(d, g.borrowed)
 }
 
 fn spare_mixed(sum: u64, x: Spare) -> u64 {
@@ -48,9 +48,9 @@ fn spares_mixed(sum: u64, spares: [Spare; SPARE_PLACES]) -> u64 {
 
 pub(crate) fn state_digest(sum: u64, s: State) -> u64 {
     let a = mixed(sum, s.now);
-    let b = mixed(a, s.count as u64);
+    let b = mixed(a, s.listed as u64);
     let c = mixed(b, s.burned);
-    let d = mixed(c, s.idle);
+    let d = mixed(c, s.empty);
     let guests = s.guests;
     let e = guests_mixed(d, guests);
     let spares = s.spares;

@@ -74,7 +74,7 @@ pub fn ready(i: usize, g: Guest) -> Pick
     if g.jobs == 0 {
         return Pick::Nobody;
     }
-    Pick::Picked(i, g.deadline, g.left)
+    Pick::Picked(i, g.deadline, g.current)
 }
 
 // The lowest active guest. An empty mask has 32 zeros at its end, more than there are guests.

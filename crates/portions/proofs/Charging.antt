@@ -16,7 +16,7 @@ use Rattle.rules.specs.declared.Portion.{Portion as DeclaredPortion}
 use Rattle.rules.specs.declared.Portion.the-variants.{Run, Burn, Nothing}
 use Rattle.rules.specs.Calls.{portionOf}
 use Rattle.rules.specs.Lines.{ticksOn}
-use Rattle.rules.specs.Model.{Guest, guest, Spare, spare, Model, leftOf, capacityOf, guestAt, spareAt}
+use Rattle.rules.specs.Model.{Guest, guest, Spare, spare, Model, currentOf, capacityOf, guestAt, spareAt}
 use Rattle.promises.specs.Promises.{FirstSpareIs, Uses}
 use Rattle.rules.specs.Steps.{picked, ownBudget, spareOf, runs, limited, Portion, portion, useOf, spanOf, portionFor, spend, ran, later, charge}
 use Rattle.promises.specs.Spans.{Within}
@@ -49,7 +49,7 @@ lostBy c (spare d owner b ∷ ss) = drop (c .removed) (spare d owner (b - c .spe
 
 -- the model after it
 abbrev pub made : Charge → Model → Model
-made c m = later (c .ticks) m (changed (c .guest) (ran (c .own) (c .lent)) (m .guests)) (lostBy c (m .spares)) (m .burned + c .burned) (m .idle + c .idle)
+made c m = later (c .ticks) m (changed (c .guest) (ran (c .own) (c .borrowed)) (m .guests)) (lostBy c (m .spares)) (m .burned + c .burned) (m .empty + c .empty)
 
 -- what the code needs to know of it
 pub record Fits (c : Charge) (left : ℕ) (p : Portion) (m : Model) : Type 0 where
@@ -58,22 +58,22 @@ pub record Fits (c : Charge) (left : ℕ) (p : Portion) (m : Model) : Type 0 whe
   pub most : c .ticks ≤ left
   pub span : Within (c .ticks) (spanOf p)
   pub names : c .guest < length (m .guests)
-  pub own : c .own ≤ leftOf (guestAt (c .guest) (m .guests))
+  pub own : c .own ≤ currentOf (guestAt (c .guest) (m .guests))
   pub own-ticks : c .own ≤ c .ticks
-  pub lent-ticks : c .lent ≤ c .ticks
+  pub borrowed-ticks : c .borrowed ≤ c .ticks
   pub burned-ticks : c .burned ≤ c .ticks
-  pub idle-ticks : c .idle ≤ c .ticks
+  pub empty-ticks : c .empty ≤ c .ticks
   pub spent : c .spent ≤ capacityOf (spareAt 0 (m .spares))
   pub removed : c .removed ≤ length (m .spares)
   pub so : charge (c .ticks) (useOf p) m ≡ made c m
 
 -- the model after it, from its parts
-made-of : (c : Charge) (m : Model) {gs : List Guest} {ss : List Spare} {burned idle : ℕ} → gs ≡ changed (c .guest) (ran (c .own) (c .lent)) (m .guests) → ss ≡ lostBy c (m .spares)
-    → burned ≡ m .burned + c .burned → idle ≡ m .idle + c .idle → later (c .ticks) m gs ss burned idle ≡ made c m
-made-of c m guests spares burned idle = λ j. later (c .ticks) m (guests j) (spares j) (burned j) (idle j)
+made-of : (c : Charge) (m : Model) {gs : List Guest} {ss : List Spare} {burned empty : ℕ} → gs ≡ changed (c .guest) (ran (c .own) (c .borrowed)) (m .guests) → ss ≡ lostBy c (m .spares)
+    → burned ≡ m .burned + c .burned → empty ≡ m .empty + c .empty → later (c .ticks) m gs ss burned empty ≡ made c m
+made-of c m guests spares burned empty = λ j. later (c .ticks) m (guests j) (spares j) (burned j) (empty j)
 
 ran-none : (g : Guest) → ran 0 0 g ≡ g
-ran-none (guest Q T jobs c d own lent) = rw (add-zero, add-zero, sub-zero)
+ran-none (guest Q T jobs c d own borrowed) = rw (add-zero, add-zero, sub-zero)
 
 changed-none : (i : ℕ) (gs : List Guest) → changed i (ran 0 0) gs ≡ gs
 changed-none i [] = refl
@@ -99,7 +99,7 @@ module _ (left last : ℕ) (some : 0 < left) (m : Model) (inside : last < length
 
   pub charge-fits : (x : DeclaredPortion) → Uses (m .guests) (m .spares) (portionOf x) → Within 1 (spanOf (portionOf x)) → Fits (chargeOf left last x) left (portionOf x) m
   charge-fits (Run i Own d span) u h =
-      let l : span ≡ leftOf (guestAt i (m .guests)) = limited-same span (leftOf (guestAt i (m .guests))) (u .2) in
+      let l : span ≡ currentOf (guestAt i (m .guests)) = limited-same span (currentOf (guestAt i (m .guests))) (u .2) in
       record {
         ticks = refl;
         some = omega arith;
@@ -108,9 +108,9 @@ module _ (left last : ℕ) (some : 0 < left) (m : Model) (inside : last < length
         names = u .0 .place;
         own = omega arith;
         own-ticks = omega arith;
-        lent-ticks = omega arith;
+        borrowed-ticks = omega arith;
         burned-ticks = omega arith;
-        idle-ticks = omega arith;
+        empty-ticks = omega arith;
         spent = omega arith;
         removed = omega arith;
         so = let c = chargeOf left last (Run i Own d span) in made-of c m refl (sym (lost-none c refl refl (m .spares))) (sym (add-zero _)) (sym (add-zero _));
@@ -126,9 +126,9 @@ module _ (left last : ℕ) (some : 0 < left) (m : Model) (inside : last < length
         names = u .0 .place;
         own = omega arith;
         own-ticks = omega arith;
-        lent-ticks = omega arith;
+        borrowed-ticks = omega arith;
         burned-ticks = omega arith;
-        idle-ticks = omega arith;
+        empty-ticks = omega arith;
         spent = rw (f .1) (omega arith);
         removed = rw (f .1) (omega (arith, removed-few n span));
         so = let c = chargeOf left last (Run i (SpareOf owner) d span) in made-of c m refl (rw (f .1) (spend-lost n d owner span (f .0))) (sym (add-zero _)) (sym (add-zero _));
@@ -144,9 +144,9 @@ module _ (left last : ℕ) (some : 0 < left) (m : Model) (inside : last < length
         names = inside;
         own = omega arith;
         own-ticks = omega arith;
-        lent-ticks = omega arith;
+        borrowed-ticks = omega arith;
         burned-ticks = omega arith;
-        idle-ticks = omega arith;
+        empty-ticks = omega arith;
         spent = rw (f .1) (omega arith);
         removed = rw (f .1) (omega (arith, removed-few n span));
         so = let c = chargeOf left last (Burn owner d span) in made-of c m (sym (changed-none last (m .guests))) (rw (f .1) (spend-lost n d owner span (f .0))) refl (sym (add-zero _));
@@ -160,9 +160,9 @@ module _ (left last : ℕ) (some : 0 < left) (m : Model) (inside : last < length
         names = inside;
         own = omega arith;
         own-ticks = omega arith;
-        lent-ticks = omega arith;
+        borrowed-ticks = omega arith;
         burned-ticks = omega arith;
-        idle-ticks = omega arith;
+        empty-ticks = omega arith;
         spent = omega arith;
         removed = omega arith;
         so = let c = chargeOf left last Nothing in made-of c m (sym (changed-none last (m .guests))) (sym (lost-none c refl refl (m .spares))) (sym (add-zero _)) refl;

@@ -27,19 +27,19 @@ removedBy ticks capacity = cond (leb capacity ticks) 1 0
 
 -- so many ticks, charged to nobody yet
 abbrev pub blank : ℕ → ℕ → Charge
-blank ticks guest = record { ticks = ticks; guest = guest; own = 0; lent = 0; spent = 0; removed = 0; burned = 0; idle = 0 }
+blank ticks guest = record { ticks = ticks; guest = guest; own = 0; borrowed = 0; spent = 0; removed = 0; burned = 0; empty = 0 }
 
 -- ticks that a guest runs, on its own budget or on a spare
 abbrev pub runCharge : Source → ℕ → ℕ → ℕ → Charge
-runCharge Own i n removed = record { ticks = n; guest = i; own = n; lent = 0; spent = 0; removed = 0; burned = 0; idle = 0 }
-runCharge (SpareOf owner) i n removed = record { ticks = n; guest = i; own = 0; lent = n; spent = n; removed = removed; burned = 0; idle = 0 }
+runCharge Own i n removed = record { ticks = n; guest = i; own = n; borrowed = 0; spent = 0; removed = 0; burned = 0; empty = 0 }
+runCharge (SpareOf owner) i n removed = record { ticks = n; guest = i; own = 0; borrowed = n; spent = n; removed = removed; burned = 0; empty = 0 }
 
 -- of the ticks left, those that stay on what comes next, each charged where a tick on it is charged
 abbrev pub chargeOf : ℕ → ℕ → DeclaredPortion → Charge
 chargeOf left last (Run i source d span) = runCharge source i (min left span) (removedBy (min left span) span)
 chargeOf left last (Burn owner d span) =
-    record { ticks = min left span; guest = last; own = 0; lent = 0; spent = min left span; removed = removedBy (min left span) span; burned = min left span; idle = 0 }
-chargeOf left last Nothing = record { ticks = left; guest = last; own = 0; lent = 0; spent = 0; removed = 0; burned = 0; idle = left }
+    record { ticks = min left span; guest = last; own = 0; borrowed = 0; spent = min left span; removed = removedBy (min left span) span; burned = min left span; empty = 0 }
+chargeOf left last Nothing = record { ticks = left; guest = last; own = 0; borrowed = 0; spent = 0; removed = 0; burned = 0; empty = left }
 
 -- steps 3 and 4 of a tick: what the picked guest and the first spare, if there is any, make the next tick use
 abbrev pub PortionTold : DeclaredPick → SparePlace → Bool → DeclaredPortion → Type 0

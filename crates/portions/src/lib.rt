@@ -13,11 +13,11 @@ pub struct Charge {
     pub ticks: u64,
     pub guest: usize,
     pub own: u64,
-    pub lent: u64,
+    pub borrowed: u64,
     pub spent: u64,
     pub removed: usize,
     pub burned: u64,
-    pub idle: u64,
+    pub empty: u64,
 }
 
 // What the picked guest and the first spare, if there is any, make the next tick use.
@@ -70,11 +70,11 @@ fn blank(ticks: u64, guest: usize) -> Charge
         ticks,
         guest,
         own: 0,
-        lent: 0,
+        borrowed: 0,
         spent: 0,
         removed: 0,
         burned: 0,
-        idle: 0,
+        empty: 0,
     }
 }
 
@@ -85,7 +85,7 @@ fn run_charge(source: Source, i: usize, ticks: u64, removed: usize) -> Charge
     match source {
         Source::Own => Charge { own: ticks, ..c },
         Source::SpareOf(_) => Charge {
-            lent: ticks,
+            borrowed: ticks,
             spent: ticks,
             removed,
             ..c
@@ -116,7 +116,7 @@ pub fn charge_of(portion: Portion, left: u64, last: usize) -> Charge
         }
         Portion::Nothing => {
             let c = blank(left, last);
-            Charge { idle: left, ..c }
+            Charge { empty: left, ..c }
         }
     }
 }

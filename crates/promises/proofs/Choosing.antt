@@ -6,14 +6,14 @@ use Prim.Native.Nat.{ℕ, zero, suc, _+_, _≤_, _<_}
 use native.Mathlib.Nat.{add-zero}
 use native.Mathlib.Omega.{arith}
 use Rattle.laws.proofs.Cases.{never, by-leb, by-index}
-use Rattle.rules.specs.Model.{Guest, guest, Spare, spare, leftOf, deadlineOf, active, guestAt}
+use Rattle.rules.specs.Model.{Guest, guest, Spare, spare, currentOf, deadlineOf, active, guestAt}
 use Rattle.rules.specs.Steps.{Pick, nobody, picked, ready, sooner, earliest, ownBudget, spareOf, runs, limited, portion, portionFor, next}
 use Rattle.promises.specs.Promises.{RunsFirst, NobodyActive, Uses, NextUses}
 
 -- what a pick from guests numbered from i says of them
 abbrev Leads : ℕ → List Guest → Pick → Type 0
 Leads i gs nobody = NobodyActive gs
-Leads i gs (picked n d c) = (j : ℕ) × (n ≡ i + j) × RunsFirst gs j × (d ≡ deadlineOf (guestAt j gs)) × (c ≡ leftOf (guestAt j gs))
+Leads i gs (picked n d c) = (j : ℕ) × (n ≡ i + j) × RunsFirst gs j × (d ≡ deadlineOf (guestAt j gs)) × (c ≡ currentOf (guestAt j gs))
 
 -- a pick from the guests behind an idle one
 behind-idle : (i : ℕ) (g : Guest) (gs : List Guest) (p : Pick) → active g ≡ false → Leads (suc i) gs p → Leads i (g ∷ gs) p
@@ -33,7 +33,7 @@ behind-idle i g gs (picked n d c) h l =
     )
 
 -- the first guest, where it is active and no other is sooner
-first-leads : (i : ℕ) (g : Guest) (gs : List Guest) → active g ≡ true → ((k : ℕ) → active (guestAt k gs) ≡ true → deadlineOf g ≤ deadlineOf (guestAt k gs)) → Leads i (g ∷ gs) (picked i (deadlineOf g) (leftOf g))
+first-leads : (i : ℕ) (g : Guest) (gs : List Guest) → active g ≡ true → ((k : ℕ) → active (guestAt k gs) ≡ true → deadlineOf g ≤ deadlineOf (guestAt k gs)) → Leads i (g ∷ gs) (picked i (deadlineOf g) (currentOf g))
 first-leads i g gs h f = (
   0,
   sym (add-zero i),
@@ -66,10 +66,10 @@ later-leads i g gs n d c h l =
 
 -- the sooner of the first guest and the pick from those behind it
 sooner-leads : (i : ℕ) (g : Guest) (gs : List Guest) (q : Pick) → Leads (suc i) gs q → Leads i (g ∷ gs) (sooner (ready i g) q)
-sooner-leads i (guest Q T zero c d own lent) gs q l = behind-idle i (guest Q T 0 c d own lent) gs q refl l
-sooner-leads i (guest Q T (suc jobs) c d own lent) gs nobody l = first-leads i (guest Q T (suc jobs) c d own lent) gs refl (λ k a. never a (l k))
-sooner-leads i (guest Q T (suc jobs) c d own lent) gs (picked n e b) l =
-    let g = guest Q T (suc jobs) c d own lent in
+sooner-leads i (guest Q T zero c d own borrowed) gs q l = behind-idle i (guest Q T 0 c d own borrowed) gs q refl l
+sooner-leads i (guest Q T (suc jobs) c d own borrowed) gs nobody l = first-leads i (guest Q T (suc jobs) c d own borrowed) gs refl (λ k a. never a (l k))
+sooner-leads i (guest Q T (suc jobs) c d own borrowed) gs (picked n e b) l =
+    let g = guest Q T (suc jobs) c d own borrowed in
     by-leb (λ t. Leads i (g ∷ gs) (cond t (picked i d c) (picked n e b))) d e
     (λ h. first-leads i g gs refl (λ k a. omega (arith, l .3, l .2 .smallest k a)))
     (λ h. later-leads i g gs n e b h l)
@@ -79,7 +79,7 @@ earliest-leads i [] = λ k. refl
 earliest-leads i (g ∷ gs) = sooner-leads i g gs (earliest (suc i) gs) (earliest-leads (suc i) gs)
 
 -- a pick from guests numbered from 0
-settled : (gs : List Guest) (n d c : ℕ) → Leads 0 gs (picked n d c) → RunsFirst gs n × (d ≡ deadlineOf (guestAt n gs)) × (c ≡ leftOf (guestAt n gs))
+settled : (gs : List Guest) (n d c : ℕ) → Leads 0 gs (picked n d c) → RunsFirst gs n × (d ≡ deadlineOf (guestAt n gs)) × (c ≡ currentOf (guestAt n gs))
 settled gs n d c l =
     let e : n ≡ l .0 = omega (arith, l .1) in
     rw e (l .2, l .3, l .4)

@@ -23,17 +23,17 @@ use Rattle.promises.proofs.Packing.{table-entries, model-packed, packed
 
 -- jobs and current budget in range
 abbrev pub InRange : Guest → Type 0
-InRange (guest Q T zero c d own lent) = c ≡ 0
-InRange (guest Q T (suc jobs) c d own lent) = (suc jobs ≤ mostJobs) × (c ≤ Q)
+InRange (guest Q T zero c d own borrowed) = c ≡ 0
+InRange (guest Q T (suc jobs) c d own borrowed) = (suc jobs ≤ mostJobs) × (c ≤ Q)
 
 -- the table's part of a guest
 abbrev pub Served : Guest → Type 0
-Served (guest Q T jobs c d own lent) = (1 ≤ Q) × (Q ≤ T) × (T ≤ longestFrame)
+Served (guest Q T jobs c d own borrowed) = (1 ≤ Q) × (Q ≤ T) × (T ≤ longestFrame)
 
 -- a spare against its owner
 abbrev pub Covers : Guest → Spare → Type 0
-Covers (guest Q T zero c d own lent) (spare e owner b) = (1 ≤ b) × (b ≤ Q) × (e ≤ d)
-Covers (guest Q T (suc jobs) c d own lent) (spare e owner b) = (1 ≤ b) × (b ≤ Q) × (e < d)
+Covers (guest Q T zero c d own borrowed) (spare e owner b) = (1 ≤ b) × (b ≤ Q) × (e ≤ d)
+Covers (guest Q T (suc jobs) c d own borrowed) (spare e owner b) = (1 ≤ b) × (b ≤ Q) × (e < d)
 
 pub record GuestGood (bound : ℕ) (g : Guest) : Type 0 where
   pub served : Served g
@@ -57,20 +57,20 @@ pub record Sane (m : Model) : Type 0 where
 -- ---- each test is its fact
 
 range-of : (g : Guest) → guestInRange g ≡ true → InRange g
-range-of (guest Q T zero c d own lent) h = eqb-true c 0 (and-both (leb 0 mostJobs && leb c Q) (eqb c 0) h .1)
-range-of (guest Q T (suc jobs) c d own lent) h =
+range-of (guest Q T zero c d own borrowed) h = eqb-true c 0 (and-both (leb 0 mostJobs && leb c Q) (eqb c 0) h .1)
+range-of (guest Q T (suc jobs) c d own borrowed) h =
     let a = and-both (leb (suc jobs) mostJobs && leb c Q) true h in
     let b = and-both (leb (suc jobs) mostJobs) (leb c Q) (a .0) in
     (leb-true (suc jobs) mostJobs (b .0), leb-true c Q (b .1))
 
 test-range : (g : Guest) → InRange g → guestInRange g ≡ true
-test-range (guest Q T zero c d own lent) h = and-intro (and-intro refl (le-leb c Q (omega arith))) (eq-eqb c 0 h)
-test-range (guest Q T (suc jobs) c d own lent) h = and-intro (and-intro (le-leb (suc jobs) mostJobs (h .0)) (le-leb c Q (h .1))) refl
+test-range (guest Q T zero c d own borrowed) h = and-intro (and-intro refl (le-leb c Q (omega arith))) (eq-eqb c 0 h)
+test-range (guest Q T (suc jobs) c d own borrowed) h = and-intro (and-intro (le-leb (suc jobs) mostJobs (h .0)) (le-leb c Q (h .1))) refl
 
 -- a spare's two tests, with the owner in hand
 covers-of : (g : Guest) (x : Spare) → 1 ≤ capacityOf x → capacityOf x ≤ budgetOf g → leb (dueOf x) (deadlineOf g) && (not (active g) || ltb (dueOf x) (deadlineOf g)) ≡ true → Covers g x
-covers-of (guest Q T zero c d own lent) (spare e owner b) l k h = (l, k, leb-true e d (and-both (leb e d) true h .0))
-covers-of (guest Q T (suc jobs) c d own lent) (spare e owner b) l k h = (l, k, ltb-true e d (and-both (leb e d) (ltb e d) h .1))
+covers-of (guest Q T zero c d own borrowed) (spare e owner b) l k h = (l, k, leb-true e d (and-both (leb e d) true h .0))
+covers-of (guest Q T (suc jobs) c d own borrowed) (spare e owner b) l k h = (l, k, ltb-true e d (and-both (leb e d) (ltb e d) h .1))
 
 spare-of : (bound : ℕ) (gs : List Guest) (x : Spare) → spareInRange gs x ≡ true → leb (dueOf x) bound ≡ true → behindOwner gs x ≡ true → SpareGood bound gs x
 spare-of bound gs x h e k =
@@ -83,8 +83,8 @@ spare-of bound gs x h e k =
     }
 
 test-covers : (g : Guest) (x : Spare) → Covers g x → (leb 1 (capacityOf x) ≡ true) × (leb (capacityOf x) (budgetOf g) ≡ true) × (leb (dueOf x) (deadlineOf g) && (not (active g) || ltb (dueOf x) (deadlineOf g)) ≡ true)
-test-covers (guest Q T zero c d own lent) (spare e owner b) h = (le-leb 1 b (h .0), le-leb b Q (h .1), and-intro (le-leb e d (h .2)) refl)
-test-covers (guest Q T (suc jobs) c d own lent) (spare e owner b) h = (le-leb 1 b (h .0), le-leb b Q (h .1), and-intro (le-leb e d (omega arith)) (lt-ltb e d (h .2)))
+test-covers (guest Q T zero c d own borrowed) (spare e owner b) h = (le-leb 1 b (h .0), le-leb b Q (h .1), and-intro (le-leb e d (h .2)) refl)
+test-covers (guest Q T (suc jobs) c d own borrowed) (spare e owner b) h = (le-leb 1 b (h .0), le-leb b Q (h .1), and-intro (le-leb e d (omega arith)) (lt-ltb e d (h .2)))
 
 test-spare : (bound : ℕ) (gs : List Guest) (x : Spare) → SpareGood bound gs x → spareInRange gs x ≡ true
 test-spare bound gs x h =
@@ -94,7 +94,7 @@ test-spare bound gs x h =
 -- the table's fact of every guest
 served-of : (H : ℕ) → H ≤ longestFrame → (gs : List Guest) → All (Fits H) (map entryOf gs) → All Served gs
 served-of H l [] none = none
-served-of H l (guest Q T jobs c d own lent ∷ gs) (each f fs) = each {x = guest Q T jobs c d own lent} (f .budget-low, f .budget-high, omega (arith, f .period-high)) (served-of H l gs fs)
+served-of H l (guest Q T jobs c d own borrowed ∷ gs) (each f fs) = each {x = guest Q T jobs c d own borrowed} (f .budget-low, f .budget-high, omega (arith, f .period-high)) (served-of H l gs fs)
 
 -- a model's table has as many entries as there are guests
 pub served : (m : Model) → Good (tableOf m) → All Served (m .guests)
@@ -150,17 +150,17 @@ range-sane m s =
 -- the four points of a sound state
 pub record Points (s : State) : Type 0 where
   pub table : goodTable (s .table) ≡ true
-  pub few : s .count ≤ sparePlaces
+  pub few : s .listed ≤ sparePlaces
   pub range : inRange (model s) ≡ true
   pub rest : unusedZero s ≡ true
 
 pub points : (s : State) → sound s ≡ true → Points s
 unfolding sound
 points s h =
-    let a = and-both (goodTable (s .table) && leb (s .count) sparePlaces && inRange (model s)) (unusedZero s) h in
-    let b = and-both (goodTable (s .table) && leb (s .count) sparePlaces) (inRange (model s)) (a .0) in
-    let c = and-both (goodTable (s .table)) (leb (s .count) sparePlaces) (b .0) in
-    record { table = c .0; few = leb-true (s .count) sparePlaces (c .1); range = b .1; rest = a .1 }
+    let a = and-both (goodTable (s .table) && leb (s .listed) sparePlaces && inRange (model s)) (unusedZero s) h in
+    let b = and-both (goodTable (s .table) && leb (s .listed) sparePlaces) (inRange (model s)) (a .0) in
+    let c = and-both (goodTable (s .table)) (leb (s .listed) sparePlaces) (b .0) in
+    record { table = c .0; few = leb-true (s .listed) sparePlaces (c .1); range = b .1; rest = a .1 }
 
 pub sane-model : (s : State) → sound s ≡ true → Sane (model s)
 sane-model s h =

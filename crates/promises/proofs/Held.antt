@@ -6,7 +6,7 @@ use Prim.Native.Nat.{ℕ, zero, suc, _≤_, _<_}
 use native.Mathlib.Omega.{arith}
 use Rattle.laws.proofs.Cases.{never}
 use Rattle.rules.specs.Table.{goodTable}
-use Rattle.rules.specs.Model.{active, leftOf, deadlineOf, guestAt, capacityOf, dueOf, spareAt, spare}
+use Rattle.rules.specs.Model.{active, currentOf, deadlineOf, guestAt, capacityOf, dueOf, spareAt, spare}
 use Rattle.rules.specs.Steps.{arrive, done, ownBudget, Use, runs, renewed, next, serve, tick, advance, ask}
 use Rattle.rules.specs.Places.{model, packed}
 use Rattle.rules.specs.Sound.{inRange, sound}
@@ -67,7 +67,7 @@ runs-held =
     }
 
 -- a guest and a spare with deadline 11 at tick 10, and places with neither
-budget-ahead : (i : ℕ) → 0 < leftOf (guestAt i (of 1 1 11 ∷ [])) → 10 < deadlineOf (guestAt i (of 1 1 11 ∷ []))
+budget-ahead : (i : ℕ) → 0 < currentOf (guestAt i (of 1 1 11 ∷ [])) → 10 < deadlineOf (guestAt i (of 1 1 11 ∷ []))
 budget-ahead zero h = omega arith
 budget-ahead (suc i) h = absurd (omega arith)
 

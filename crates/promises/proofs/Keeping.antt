@@ -53,16 +53,16 @@ spares-map low high f l gs g vs ps =
 -- ---- arrive
 
 pub entry-join : (now : ℕ) (g : Guest) → entryOf (join now g) ≡ entryOf g
-entry-join now (guest Q T zero c d own lent) = refl
-entry-join now (guest Q T (suc jobs) c d own lent) = refl
+entry-join now (guest Q T zero c d own borrowed) = refl
+entry-join now (guest Q T (suc jobs) c d own borrowed) = refl
 
 tallies-join : (now : ℕ) (g : Guest) → talliesOf (join now g) ≡ talliesOf g
-tallies-join now (guest Q T zero c d own lent) = refl
-tallies-join now (guest Q T (suc jobs) c d own lent) = refl
+tallies-join now (guest Q T zero c d own borrowed) = refl
+tallies-join now (guest Q T (suc jobs) c d own borrowed) = refl
 
 covers-join : (now : ℕ) (g : Guest) → Served g → (x : Spare) → Covers g x → Covers (join now g) x
-covers-join now (guest Q T zero c d own lent) v (spare e owner b) p = omega arith
-covers-join now (guest Q T (suc jobs) c d own lent) v (spare e owner b) p = p
+covers-join now (guest Q T zero c d own borrowed) v (spare e owner b) p = omega arith
+covers-join now (guest Q T (suc jobs) c d own borrowed) v (spare e owner b) p = p
 
 -- what the rows of an arrival leave: 4, 5 and 6 do not hold
 pub record MayArrive (m : Model) (i : ℕ) : Type 0 where
@@ -72,9 +72,9 @@ pub record MayArrive (m : Model) (i : ℕ) : Type 0 where
   pub early : idleGuest (guestAt i (m .guests)) && ltb deadlineCap (deadlineOf (wake (m .now) (guestAt i (m .guests)))) ≡ false
 
 good-join : (now : ℕ) (g : Guest) → GuestGood (deadlineBound now) g → eqb (jobsOf g) mostJobs ≡ false → idleGuest g && ltb deadlineCap (deadlineOf (wake now g)) ≡ false → GuestGood (deadlineBound now) (join now g)
-good-join now (guest Q T zero c d own lent) p j e =
+good-join now (guest Q T zero c d own borrowed) p j e =
     record { served = p .served; range = omega (arith, p .served); early = omega (arith, ltb-false deadlineCap (max now d + T) e) }
-good-join now (guest Q T (suc jobs) c d own lent) p j e =
+good-join now (guest Q T (suc jobs) c d own borrowed) p j e =
     let n : suc jobs ≡ mostJobs → ⊥ = eqb-false (suc jobs) mostJobs j in
     record { served = p .served; range = more jobs c Q n (p .range); early = p .early }
   where
@@ -83,10 +83,10 @@ good-join now (guest Q T (suc jobs) c d own lent) p j e =
 
 -- "spares plus active guests are at most 64"
 room-join : (now total′ total spares : ℕ) (g : Guest) → total′ + bitOf g ≡ total + bitOf (join now g) → idleGuest g && eqb (spares + total) sparePlaces ≡ false → spares + total ≤ sparePlaces → spares + total′ ≤ sparePlaces
-room-join now total′ total spares (guest Q T zero c d own lent) e h l =
+room-join now total′ total spares (guest Q T zero c d own borrowed) e h l =
     let n : spares + total ≡ sparePlaces → ⊥ = eqb-false (spares + total) sparePlaces h in
     omega arith
-room-join now total′ total spares (guest Q T (suc jobs) c d own lent) e h l = omega arith
+room-join now total′ total spares (guest Q T (suc jobs) c d own borrowed) e h l = omega arith
 
 pub arrive-sane : (i : ℕ) (m : Model) → MayArrive m i → Sane m → Sane (arrive i m)
 unfolding arrive
@@ -154,50 +154,50 @@ module _ (x : Spare) where
 -- ---- done
 
 pub entry-finish : (g : Guest) → entryOf (finish g) ≡ entryOf g
-entry-finish (guest Q T zero c d own lent) = refl
-entry-finish (guest Q T (suc zero) c d own lent) = refl
-entry-finish (guest Q T (suc (suc jobs)) c d own lent) = refl
+entry-finish (guest Q T zero c d own borrowed) = refl
+entry-finish (guest Q T (suc zero) c d own borrowed) = refl
+entry-finish (guest Q T (suc (suc jobs)) c d own borrowed) = refl
 
 tallies-finish : (g : Guest) → talliesOf (finish g) ≡ talliesOf g
-tallies-finish (guest Q T zero c d own lent) = refl
-tallies-finish (guest Q T (suc zero) c d own lent) = refl
-tallies-finish (guest Q T (suc (suc jobs)) c d own lent) = refl
+tallies-finish (guest Q T zero c d own borrowed) = refl
+tallies-finish (guest Q T (suc zero) c d own borrowed) = refl
+tallies-finish (guest Q T (suc (suc jobs)) c d own borrowed) = refl
 
 good-finish : (bound : ℕ) (g : Guest) → GuestGood bound g → GuestGood bound (finish g)
-good-finish bound (guest Q T zero c d own lent) p = p
-good-finish bound (guest Q T (suc zero) c d own lent) p = record { served = p .served; range = refl; early = p .early }
-good-finish bound (guest Q T (suc (suc jobs)) c d own lent) p = record { served = p .served; range = omega (arith, p .range); early = p .early }
+good-finish bound (guest Q T zero c d own borrowed) p = p
+good-finish bound (guest Q T (suc zero) c d own borrowed) p = record { served = p .served; range = refl; early = p .early }
+good-finish bound (guest Q T (suc (suc jobs)) c d own borrowed) p = record { served = p .served; range = omega (arith, p .range); early = p .early }
 
 covers-finish : (g : Guest) (x : Spare) → Covers g x → Covers (finish g) x
-covers-finish (guest Q T zero c d own lent) (spare e owner b) p = p
-covers-finish (guest Q T (suc zero) c d own lent) (spare e owner b) p = omega arith
-covers-finish (guest Q T (suc (suc jobs)) c d own lent) (spare e owner b) p = p
+covers-finish (guest Q T zero c d own borrowed) (spare e owner b) p = p
+covers-finish (guest Q T (suc zero) c d own borrowed) (spare e owner b) p = omega arith
+covers-finish (guest Q T (suc (suc jobs)) c d own borrowed) (spare e owner b) p = p
 
 -- the leftover is covered by the guest that went idle
 leave-good : (bound i : ℕ) (gs : List Guest) (g : Guest) → i < length gs → GuestGood bound g → ((x : Spare) → Covers (finish g) x → Covers (guestAt i gs) x) → {ss : List Spare} → All (SpareGood bound gs) ss → All (SpareGood bound gs) (leave i g ss)
-leave-good bound i gs (guest Q T zero c d own lent) h p v ps = ps
-leave-good bound i gs (guest Q T (suc zero) zero d own lent) h p v ps = ps
-leave-good bound i gs (guest Q T (suc zero) (suc c) d own lent) h p v ps =
+leave-good bound i gs (guest Q T zero c d own borrowed) h p v ps = ps
+leave-good bound i gs (guest Q T (suc zero) zero d own borrowed) h p v ps = ps
+leave-good bound i gs (guest Q T (suc zero) (suc c) d own borrowed) h p v ps =
     all-insert (spare d i (suc c)) (record { owned = h; covered = v (spare d i (suc c)) (omega (arith, p .range)); early = p .early }) ps
-leave-good bound i gs (guest Q T (suc (suc jobs)) c d own lent) h p v ps = ps
+leave-good bound i gs (guest Q T (suc (suc jobs)) c d own borrowed) h p v ps = ps
 
 -- an active guest's spares have smaller deadlines
 due-below : (g : Guest) (y : Spare) → active g ≡ true → Covers g y → dueOf y < deadlineOf g
-due-below (guest Q T zero c d own lent) (spare e owner b) h p = never h refl
-due-below (guest Q T (suc jobs) c d own lent) (spare e owner b) h p = p .2
+due-below (guest Q T zero c d own borrowed) (spare e owner b) h p = never h refl
+due-below (guest Q T (suc jobs) c d own borrowed) (spare e owner b) h p = p .2
 
 leave-rising : (i : ℕ) (g : Guest) {ss : List Spare} → All (λ y. ownerOf y ≡ i → Covers g y) ss → rising ss ≡ true → rising (leave i g ss) ≡ true
-leave-rising i (guest Q T zero c d own lent) a r = r
-leave-rising i (guest Q T (suc zero) zero d own lent) a r = r
-leave-rising i (guest Q T (suc zero) (suc c) d own lent) a r = insert-rising (spare d i (suc c)) (all-imp (λ y h e. due-below (guest Q T 1 (suc c) d own lent) y refl (h e)) a) r
-leave-rising i (guest Q T (suc (suc jobs)) c d own lent) a r = r
+leave-rising i (guest Q T zero c d own borrowed) a r = r
+leave-rising i (guest Q T (suc zero) zero d own borrowed) a r = r
+leave-rising i (guest Q T (suc zero) (suc c) d own borrowed) a r = insert-rising (spare d i (suc c)) (all-imp (λ y h e. due-below (guest Q T 1 (suc c) d own borrowed) y refl (h e)) a) r
+leave-rising i (guest Q T (suc (suc jobs)) c d own borrowed) a r = r
 
 -- where a leftover takes a place, a guest gives one up
 leave-room : (i total′ total : ℕ) (g : Guest) (ss : List Spare) → total′ + bitOf g ≡ total + bitOf (finish g) → length ss + total ≤ sparePlaces → length (leave i g ss) + total′ ≤ sparePlaces
-leave-room i total′ total (guest Q T zero c d own lent) ss e l = omega arith
-leave-room i total′ total (guest Q T (suc zero) zero d own lent) ss e l = omega arith
-leave-room i total′ total (guest Q T (suc zero) (suc c) d own lent) ss e l = omega (arith, length-insert (spare d i (suc c)) ss)
-leave-room i total′ total (guest Q T (suc (suc jobs)) c d own lent) ss e l = omega arith
+leave-room i total′ total (guest Q T zero c d own borrowed) ss e l = omega arith
+leave-room i total′ total (guest Q T (suc zero) zero d own borrowed) ss e l = omega arith
+leave-room i total′ total (guest Q T (suc zero) (suc c) d own borrowed) ss e l = omega (arith, length-insert (spare d i (suc c)) ss)
+leave-room i total′ total (guest Q T (suc (suc jobs)) c d own borrowed) ss e l = omega arith
 
 pub done-sane : (i : ℕ) (m : Model) → i < length (m .guests) → Sane m → Sane (done i m)
 unfolding done
@@ -235,51 +235,51 @@ next-names m = uses-names (m .guests) (m .spares) (next m) (next-uses m)
 -- ---- one tick
 
 pub entry-renew : (g : Guest) → entryOf (renew g) ≡ entryOf g
-entry-renew (guest Q T zero c d own lent) = refl
-entry-renew (guest Q T (suc jobs) zero d own lent) = refl
-entry-renew (guest Q T (suc jobs) (suc c) d own lent) = refl
+entry-renew (guest Q T zero c d own borrowed) = refl
+entry-renew (guest Q T (suc jobs) zero d own borrowed) = refl
+entry-renew (guest Q T (suc jobs) (suc c) d own borrowed) = refl
 
 pub tallies-renew : (g : Guest) → talliesOf (renew g) ≡ talliesOf g
-tallies-renew (guest Q T zero c d own lent) = refl
-tallies-renew (guest Q T (suc jobs) zero d own lent) = refl
-tallies-renew (guest Q T (suc jobs) (suc c) d own lent) = refl
+tallies-renew (guest Q T zero c d own borrowed) = refl
+tallies-renew (guest Q T (suc jobs) zero d own borrowed) = refl
+tallies-renew (guest Q T (suc jobs) (suc c) d own borrowed) = refl
 
 pub bit-renew : (g : Guest) → bitOf (renew g) ≡ bitOf g
-bit-renew (guest Q T zero c d own lent) = refl
-bit-renew (guest Q T (suc jobs) zero d own lent) = refl
-bit-renew (guest Q T (suc jobs) (suc c) d own lent) = refl
+bit-renew (guest Q T zero c d own borrowed) = refl
+bit-renew (guest Q T (suc jobs) zero d own borrowed) = refl
+bit-renew (guest Q T (suc jobs) (suc c) d own borrowed) = refl
 
 covers-renew : (g : Guest) (x : Spare) → Served g → Covers g x → Covers (renew g) x
-covers-renew (guest Q T zero c d own lent) (spare e owner b) v p = p
-covers-renew (guest Q T (suc jobs) zero d own lent) (spare e owner b) v p = omega arith
-covers-renew (guest Q T (suc jobs) (suc c) d own lent) (spare e owner b) v p = p
+covers-renew (guest Q T zero c d own borrowed) (spare e owner b) v p = p
+covers-renew (guest Q T (suc jobs) zero d own borrowed) (spare e owner b) v p = omega arith
+covers-renew (guest Q T (suc jobs) (suc c) d own borrowed) (spare e owner b) v p = p
 
 -- a period is below 2^20, by which the bound grows with each tick
 good-renew : (now : ℕ) (g : Guest) → GuestGood (deadlineBound now) g → GuestGood (deadlineBound (now + 1)) (renew g)
-good-renew now (guest Q T zero c d own lent) p = record { served = p .served; range = p .range; early = omega (arith, p .early) }
-good-renew now (guest Q T (suc jobs) zero d own lent) p =
+good-renew now (guest Q T zero c d own borrowed) p = record { served = p .served; range = p .range; early = omega (arith, p .early) }
+good-renew now (guest Q T (suc jobs) zero d own borrowed) p =
     record { served = p .served; range = omega (arith, p .range); early = omega (arith, p .early, p .served) }
-good-renew now (guest Q T (suc jobs) (suc c) d own lent) p = record { served = p .served; range = p .range; early = omega (arith, p .early) }
+good-renew now (guest Q T (suc jobs) (suc c) d own borrowed) p = record { served = p .served; range = p .range; early = omega (arith, p .early) }
 
 -- ---- to run changes neither the entry nor who is active, covers as much, and counts each tick
 
 pub entry-ran : (n k : ℕ) (g : Guest) → entryOf (ran n k g) ≡ entryOf g
-entry-ran n k (guest Q T jobs c d own lent) = refl
+entry-ran n k (guest Q T jobs c d own borrowed) = refl
 
 pub bit-ran : (n k : ℕ) (g : Guest) → bitOf (ran n k g) ≡ bitOf g
-bit-ran n k (guest Q T zero c d own lent) = refl
-bit-ran n k (guest Q T (suc jobs) c d own lent) = refl
+bit-ran n k (guest Q T zero c d own borrowed) = refl
+bit-ran n k (guest Q T (suc jobs) c d own borrowed) = refl
 
 covers-ran : (n k : ℕ) (g : Guest) (x : Spare) → Covers g x → Covers (ran n k g) x
-covers-ran n k (guest Q T zero c d own lent) (spare e owner b) p = p
-covers-ran n k (guest Q T (suc jobs) c d own lent) (spare e owner b) p = p
+covers-ran n k (guest Q T zero c d own borrowed) (spare e owner b) p = p
+covers-ran n k (guest Q T (suc jobs) c d own borrowed) (spare e owner b) p = p
 
 pub tallies-ran : (n k : ℕ) (g : Guest) → talliesOf (ran n k g) ≡ talliesOf g + (n + k)
-tallies-ran n k (guest Q T jobs c d own lent) = omega arith
+tallies-ran n k (guest Q T jobs c d own borrowed) = omega arith
 
 good-ran : (n k bound : ℕ) (g : Guest) → GuestGood bound g → GuestGood bound (ran n k g)
-good-ran n k bound (guest Q T zero c d own lent) p = record { served = p .served; range = omega (arith, p .range); early = p .early }
-good-ran n k bound (guest Q T (suc jobs) c d own lent) p = record { served = p .served; range = omega (arith, p .range); early = p .early }
+good-ran n k bound (guest Q T zero c d own borrowed) p = record { served = p .served; range = omega (arith, p .range); early = p .early }
+good-ran n k bound (guest Q T (suc jobs) c d own borrowed) p = record { served = p .served; range = omega (arith, p .range); early = p .early }
 
 -- ---- the first spare loses n, and at 0 is removed
 
@@ -288,8 +288,8 @@ pub spend-either : (P : List Spare → Type 0) (n d owner c : ℕ) (ss : List Sp
 spend-either P n d owner c ss p q = by-leb (λ t. P (cond t ss (spare d owner (c - n) ∷ ss))) c n (λ h. p) (λ h. q h)
 
 covers-less : (n d owner c : ℕ) (g : Guest) → n < c → Covers g (spare d owner c) → Covers g (spare d owner (c - n))
-covers-less n d owner c (guest Q T zero b e own lent) h p = omega arith
-covers-less n d owner c (guest Q T (suc jobs) b e own lent) h p = omega arith
+covers-less n d owner c (guest Q T zero b e own borrowed) h p = omega arith
+covers-less n d owner c (guest Q T (suc jobs) b e own borrowed) h p = omega arith
 
 spend-good : (n bound : ℕ) (gs : List Guest) {ss : List Spare} → All (SpareGood bound gs) ss → All (SpareGood bound gs) (spend n ss)
 spend-good n bound gs none = none
@@ -338,12 +338,12 @@ renewed-sane m h s =
     }
 
 -- a guest runs, on its own budget or on a spare
-run-sane : (n k : ℕ) → n + k ≡ 1 → (i : ℕ) (m : Model) → i < length (m .guests) → (ss : List Spare) → length ss ≤ length (m .spares) → rising ss ≡ true → All (SpareGood (deadlineBound (m .now + 1)) (m .guests)) ss → Renewed m → Sane (later 1 m (changed i (ran n k) (m .guests)) ss (m .burned) (m .idle))
+run-sane : (n k : ℕ) → n + k ≡ 1 → (i : ℕ) (m : Model) → i < length (m .guests) → (ss : List Spare) → length ss ≤ length (m .spares) → rising ss ≡ true → All (SpareGood (deadlineBound (m .now + 1)) (m .guests)) ss → Renewed m → Sane (later 1 m (changed i (ran n k) (m .guests)) ss (m .burned) (m .empty))
 run-sane n k one i m h ss l o ps s =
     let gs = m .guests in
     let g = guestAt i gs in
     record {
-      table = rw (table-same m (later 1 m (changed i (ran n k) gs) ss (m .burned) (m .idle)) refl (map-changed entryOf (ran n k) (entry-ran n k) i gs)) (s .table);
+      table = rw (table-same m (later 1 m (changed i (ran n k) gs) ss (m .burned) (m .empty)) refl (map-changed entryOf (ran n k) (entry-ran n k) i gs)) (s .table);
       time = s .time;
       guests = all-changed noGuest i (ran n k) (s .guests) (λ p. good-ran n k (deadlineBound (m .now + 1)) g p);
       spares = spares-changed (deadlineBound (m .now + 1)) i (ran n k) gs (covers-ran n k g) ps;
@@ -353,10 +353,10 @@ run-sane n k one i m h ss l o ps s =
     }
 
 -- nobody runs
-rest-sane : (m : Model) (ss : List Spare) (burned idle : ℕ) → length ss ≤ length (m .spares) → rising ss ≡ true → All (SpareGood (deadlineBound (m .now + 1)) (m .guests)) ss → burned + idle ≡ m .burned + m .idle + 1 → Renewed m → Sane (later 1 m (m .guests) ss burned idle)
-rest-sane m ss burned idle l o ps e s =
+rest-sane : (m : Model) (ss : List Spare) (burned empty : ℕ) → length ss ≤ length (m .spares) → rising ss ≡ true → All (SpareGood (deadlineBound (m .now + 1)) (m .guests)) ss → burned + empty ≡ m .burned + m .empty + 1 → Renewed m → Sane (later 1 m (m .guests) ss burned empty)
+rest-sane m ss burned empty l o ps e s =
     record {
-      table = rw (table-same m (later 1 m (m .guests) ss burned idle) refl refl) (s .table);
+      table = rw (table-same m (later 1 m (m .guests) ss burned empty) refl refl) (s .table);
       time = s .time;
       guests = s .guests;
       spares = ps;
@@ -378,8 +378,8 @@ module _ (m : Model) (s : Renewed m) where
   charge-sane : (u : Use) → Names (length (m .guests)) u → Sane (charge 1 u m)
   charge-sane (runs i ownBudget) h = run-sane 1 0 refl i m h (m .spares) (omega arith) (s .order) (s .spares) s
   charge-sane (runs i (spareOf owner)) h = run-sane 0 1 refl i m h (spend 1 (m .spares)) spent-length spent-rising spent-good s
-  charge-sane (burns owner) h = rest-sane m (spend 1 (m .spares)) (m .burned + 1) (m .idle) spent-length spent-rising spent-good (omega arith) s
-  charge-sane nothing h = rest-sane m (m .spares) (m .burned) (m .idle + 1) (omega arith) (s .order) (s .spares) (omega arith) s
+  charge-sane (burns owner) h = rest-sane m (spend 1 (m .spares)) (m .burned + 1) (m .empty) spent-length spent-rising spent-good (omega arith) s
+  charge-sane nothing h = rest-sane m (m .spares) (m .burned) (m .empty + 1) (omega arith) (s .order) (s .spares) (omega arith) s
 
 pub tick-sane : (m : Model) → m .now + 1 ≤ lastTick → Sane m → Sane (tick m)
 unfolding tick serve

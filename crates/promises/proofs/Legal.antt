@@ -37,8 +37,8 @@ pub record Kept (m : Model) : Type 0 where
 -- ---- arrive
 
 fine-join : (now : ℕ) (g : Guest) → Fine now g → Fine now (join now g)
-fine-join now (guest Q T zero c d own lent) p = omega arith
-fine-join now (guest Q T (suc jobs) c d own lent) p = p
+fine-join now (guest Q T zero c d own borrowed) p = omega arith
+fine-join now (guest Q T (suc jobs) c d own borrowed) p = p
 
 owes-join : (now D i : ℕ) {gs : List Guest} → All (Fine now) gs → total (owed now D) (changed i (join now) gs) ≤ total (owed now D) gs
 owes-join now D i none = omega arith
@@ -58,9 +58,9 @@ arrive-kept i m k =
 -- ---- done
 
 fine-finish : (now : ℕ) (g : Guest) → Fine now g → Fine now (finish g)
-fine-finish now (guest Q T zero c d own lent) p = p
-fine-finish now (guest Q T (suc zero) c d own lent) p = (p .0, p .1, refl)
-fine-finish now (guest Q T (suc (suc jobs)) c d own lent) p = p
+fine-finish now (guest Q T zero c d own borrowed) p = p
+fine-finish now (guest Q T (suc zero) c d own borrowed) p = (p .0, p .1, refl)
+fine-finish now (guest Q T (suc (suc jobs)) c d own borrowed) p = p
 
 owes-finish : (now D owner i : ℕ) (gs : List Guest) (ss : List Spare)
     → total (held D) (leave owner (guestAt i gs) ss) + total (owed now D) (changed i finish gs) ≤ total (held D) ss + total (owed now D) gs
@@ -81,20 +81,20 @@ done-kept i m k =
 -- ---- one tick
 
 set-renew : (now : ℕ) (g : Guest) → Fine now g → Set now (renew g)
-set-renew now (guest Q T zero c d own lent) p = p
-set-renew now (guest zero T (suc jobs) zero d own lent) p = absurd (omega arith)
-set-renew now (guest (suc Q) T (suc jobs) zero d own lent) p = omega arith
-set-renew now (guest Q T (suc jobs) (suc c) d own lent) p = p
+set-renew now (guest Q T zero c d own borrowed) p = p
+set-renew now (guest zero T (suc jobs) zero d own borrowed) p = absurd (omega arith)
+set-renew now (guest (suc Q) T (suc jobs) zero d own borrowed) p = omega arith
+set-renew now (guest Q T (suc jobs) (suc c) d own borrowed) p = p
 
 -- what an active guest holds is ahead, so its deadline is not behind at the next tick
 fine-next : (now : ℕ) (g : Guest) → Set now g → Ahead now g → Fine (now + 1) g
-fine-next now (guest Q T zero c d own lent) p a = p
-fine-next now (guest Q T (suc jobs) zero d own lent) p a = omega arith
-fine-next now (guest Q T (suc jobs) (suc c) d own lent) p a = (p .0, p .1, omega (arith, a (omega arith)))
+fine-next now (guest Q T zero c d own borrowed) p a = p
+fine-next now (guest Q T (suc jobs) zero d own borrowed) p a = omega arith
+fine-next now (guest Q T (suc jobs) (suc c) d own borrowed) p a = (p .0, p .1, omega (arith, a (omega arith)))
 
 fine-ran : (n k now : ℕ) (g : Guest) → Fine now g → Fine now (ran n k g)
-fine-ran n k now (guest Q T zero c d own lent) p = omega arith
-fine-ran n k now (guest Q T (suc jobs) c d own lent) p = p
+fine-ran n k now (guest Q T zero c d own borrowed) p = omega arith
+fine-ran n k now (guest Q T (suc jobs) c d own borrowed) p = p
 
 -- where whoever can run is past D, what is owed by D fits
 pub owes-late : (now D : ℕ) {gs : List Guest} → All (Fine now) gs → All (Late D) gs → total (owed now D) gs ≤ total (shareOf (D - now)) (map entryOf gs)
@@ -169,7 +169,7 @@ module _ (m : Model) (b : Between m) where
 
   -- a guest runs, and what is owed then is paid for
   run-kept : (n k i : ℕ) (ss : List Spare) → Sorted 0 ss → ((D : ℕ) → m .now + 1 ≤ D → total (held D) ss + total (owed (m .now + 1) D) (changed i (ran n k) (m .guests)) ≤ D - (m .now + 1))
-      → Kept (later 1 m (changed i (ran n k) (m .guests)) ss (m .burned) (m .idle))
+      → Kept (later 1 m (changed i (ran n k) (m .guests)) ss (m .burned) (m .empty))
   run-kept n k i ss sorted pays =
       record {
         table = λ x. rw (map-changed entryOf (ran n k) (entry-ran n k) i (m .guests)) (b .table x);

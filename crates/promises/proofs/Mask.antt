@@ -8,8 +8,8 @@ use Rattle.rules.specs.Model.{Guest, guest, bitOf, maskOf}
 use Rattle.promises.specs.Promises.{OnesOfMask}
 
 pub bit-small : (g : Guest) → bitOf g ≤ 1
-bit-small (guest Q T zero c d own lent) = omega arith
-bit-small (guest Q T (suc jobs) c d own lent) = omega arith
+bit-small (guest Q T zero c d own borrowed) = omega arith
+bit-small (guest Q T (suc jobs) c d own borrowed) = omega arith
 
 pub ones-of-mask : OnesOfMask
 unfolding ones onesIn

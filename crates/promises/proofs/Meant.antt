@@ -32,14 +32,14 @@ mask-bit (suc i) (g ∷ gs) =
     ap (bit i) high ∙ mask-bit i gs
 
 bit-active : (g : Guest) → (bitOf g ≡ 1) ↔ (active g ≡ true)
-bit-active (guest Q T zero c d own lent) = (λ h. absurd (omega arith), λ h. cc)
-bit-active (guest Q T (suc jobs) c d own lent) = (λ h. refl, λ h. refl)
+bit-active (guest Q T zero c d own borrowed) = (λ h. absurd (omega arith), λ h. cc)
+bit-active (guest Q T (suc jobs) c d own borrowed) = (λ h. refl, λ h. refl)
 
 count-actives : (gs : List Guest) → activeCount gs ≡ length (actives gs)
 unfolding actives
 count-actives [] = refl
-count-actives (guest Q T zero c d own lent ∷ gs) = omega (arith, count-actives gs)
-count-actives (guest Q T (suc jobs) c d own lent ∷ gs) = omega (arith, count-actives gs)
+count-actives (guest Q T zero c d own borrowed ∷ gs) = omega (arith, count-actives gs)
+count-actives (guest Q T (suc jobs) c d own borrowed ∷ gs) = omega (arith, count-actives gs)
 
 -- ---- of what is answered
 
@@ -54,7 +54,7 @@ activity-meant =
           let told-mask = p .mask ∙ told-went _ _ 0 s (sym (p .answer) ∙ h) in
           let bits : bit i (r .mask) ≡ bitOf (named s i) = ap (bit i) told-mask ∙ mask-bit i (model s .guests) in
           (λ one. bit-active (named s i) .0 (sym bits ∙ one), λ is. bits ∙ bit-active (named s i) .1 is);
-      count = λ s r p h. p .count ∙ told-went _ _ 0 s (sym (p .answer) ∙ h) ∙ count-actives (model s .guests);
+      count = λ s r p h. p .actives ∙ told-went _ _ 0 s (sym (p .answer) ∙ h) ∙ count-actives (model s .guests);
     }
 
 pub margin-meant : MarginMeant

@@ -20,7 +20,7 @@ use Rattle.promises.specs.Promises.{EndReached, ShareNeeded, Line212}
 
 -- n ticks of that guest
 abbrev waited : ℕ → Model
-waited n = record { frame = 1; now = n; guests = guest 1 1 0 0 0 0 0 ∷ []; spares = []; burned = 0; idle = n }
+waited n = record { frame = 1; now = n; guests = guest 1 1 0 0 0 0 0 ∷ []; spares = []; burned = 0; empty = n }
 
 waits : (k n : ℕ) → advance k (waited n) ≡ waited (n + k)
 unfolding advance tick serve renewed next

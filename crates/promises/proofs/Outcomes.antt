@@ -143,9 +143,9 @@ one-outcome =
           let answer = answers _ (x .answer) (y .answer) (p .answer) (q .answer) in
           let state = p .state ∙ sym (q .state) in
           let left = p .left ∙ sym (q .left) in
-          let count = p .count ∙ sym (q .count) in
+          let count = p .shown ∙ sym (q .shown) in
           let lines = p .lines ∙ sym (q .lines) in
-          λ i. record { answer = answer i; state = state i; left = left i; count = count i; lines = lines i };
+          λ i. record { answer = answer i; state = state i; left = left i; shown = count i; lines = lines i };
       ask = λ s x y p q.
           let answer = answers _ (x .answer) (y .answer) (p .answer) (q .answer) in
           let next = portion-same (x .next) (y .next) (p .next ∙ sym (q .next)) in
@@ -153,8 +153,8 @@ one-outcome =
       active = λ s x y p q.
           let answer = answers _ (x .answer) (y .answer) (p .answer) (q .answer) in
           let mask = p .mask ∙ sym (q .mask) in
-          let count = p .count ∙ sym (q .count) in
-          λ i. record { answer = answer i; mask = mask i; count = count i };
+          let count = p .actives ∙ sym (q .actives) in
+          λ i. record { answer = answer i; mask = mask i; actives = count i };
       margin = λ s i x y p q.
           let answer = answers _ (x .answer) (y .answer) (p .answer) (q .answer) in
           let ticks = p .ticks ∙ sym (q .ticks) in
@@ -193,11 +193,11 @@ told-back (suc n) f z s h = refl
 moved-back : (rows : List Row) (step : Model → Model) (s : State) (r : Outcome) → Moved rows step s r → 0 < numberOf (r .answer) → r .state ≡ s
 moved-back rows step s r p h = p .state ∙ told-back (first rows) _ s s (rw (p .answer) at h)
 
-walk-back : (s : State) (k : ℕ) (r : Walk) → Walked s k r → 0 < first (advanceRows s k) → (r .state ≡ s) × (r .left ≡ 0) × (r .count ≡ 0) × (r .lines ≡ replicate linePlaces noLine)
+walk-back : (s : State) (k : ℕ) (r : Walk) → Walked s k r → 0 < first (advanceRows s k) → (r .state ≡ s) × (r .left ≡ 0) × (r .shown ≡ 0) × (r .lines ≡ replicate linePlaces noLine)
 unfolding walkState walkLeft walkLines
 walk-back s k r p h =
     let lines : walkLines k s ≡ [] = told-back _ _ [] s h in
-    (p .state ∙ told-back _ _ s s h, p .left ∙ told-back _ _ 0 s h, p .count ∙ ap length lines, p .lines ∙ ap (λ (l : List Line). padded linePlaces noLine (map linePlace l)) lines)
+    (p .state ∙ told-back _ _ s s h, p .left ∙ told-back _ _ 0 s h, p .shown ∙ ap length lines, p .lines ∙ ap (λ (l : List Line). padded linePlaces noLine (map linePlace l)) lines)
 
 pub refusal-gives-back : RefusalGivesBack
 refusal-gives-back =
@@ -207,7 +207,7 @@ refusal-gives-back =
       advance = λ s k r p h. moved-back _ _ s r p h;
       walk = λ s k r p h. walk-back s k r p (rw (p .answer) at h);
       ask = λ s r p h. portion-same (r .next) Nothing (p .next ∙ told-back _ _ nothingToDo s (rw (p .answer) at h));
-      active = λ s r p h. (p .mask ∙ told-back _ _ 0 s (rw (p .answer) at h), p .count ∙ told-back _ _ 0 s (rw (p .answer) at h));
+      active = λ s r p h. (p .mask ∙ told-back _ _ 0 s (rw (p .answer) at h), p .actives ∙ told-back _ _ 0 s (rw (p .answer) at h));
       margin = λ s i r p h. p .ticks ∙ told-back _ _ (pos 0) s (rw (p .answer) at h);
       fresh = λ t r p h. p .state ∙ kept-back _ _ noState (rw (p .answer) at h);
       read = λ image r p h. p .table ∙ kept-back _ _ noTable (rw (p .answer) at h);

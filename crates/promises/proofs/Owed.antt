@@ -12,7 +12,7 @@ use Rattle.laws.proofs.Cases.{and-both, or-neither, never, by-test, by-leb, by-
 use Rattle.laws.proofs.Elements.{All, none, each}
 use Rattle.rules.specs.declared.Entry.{Entry}
 use Rattle.rules.specs.Table.{shareOf}
-use Rattle.rules.specs.Model.{Guest, guest, Spare, spare, leftOf, deadlineOf, dueOf, capacityOf}
+use Rattle.rules.specs.Model.{Guest, guest, Spare, spare, currentOf, deadlineOf, dueOf, capacityOf}
 use Rattle.rules.specs.Steps.{join, before, insertSpare, finish, leave, renew, spend, ran}
 use Rattle.rules.specs.Places.{entryOf}
 use Rattle.promises.specs.Promises.{canRun}
@@ -101,27 +101,27 @@ sorted-insert low d i c (spare e j b ∷ ss) l k s =
     (λ h. (l, k, (before-early d i c e j b h, s .1, s .2))) (λ h. (s .0, s .1, rest (not-before-late d i c e j b h)))
 
 pub sorted-leave : (i : ℕ) (g : Guest) (ss : List Spare) → Sorted 0 ss → Sorted 0 (leave i g ss)
-sorted-leave i (guest Q T zero c d own lent) ss s = s
-sorted-leave i (guest Q T (suc zero) zero d own lent) ss s = s
-sorted-leave i (guest Q T (suc zero) (suc c) d own lent) ss s = sorted-insert 0 d i (suc c) ss (omega arith) (omega arith) s
-sorted-leave i (guest Q T (suc (suc jobs)) c d own lent) ss s = s
+sorted-leave i (guest Q T zero c d own borrowed) ss s = s
+sorted-leave i (guest Q T (suc zero) zero d own borrowed) ss s = s
+sorted-leave i (guest Q T (suc zero) (suc c) d own borrowed) ss s = sorted-insert 0 d i (suc c) ss (omega arith) (omega arith) s
+sorted-leave i (guest Q T (suc (suc jobs)) c d own borrowed) ss s = s
 
 -- ---- the guests
 
 -- what a guest holds with a deadline up to D, and what it can still be issued by D: its next deadline is at least max now d + T
 pub owed : ℕ → ℕ → Guest → ℕ
-owed now D (guest Q T jobs c d own lent) = due d D c + Q * ((D - max now d) / T)
+owed now D (guest Q T jobs c d own borrowed) = due d D c + Q * ((D - max now d) / T)
 
 -- an idle guest holds nothing, and an active one's deadline is not behind
 abbrev pub Fine : ℕ → Guest → Type 0
-Fine now (guest Q T zero c d own lent) = (1 ≤ Q) × (1 ≤ T) × (c ≡ 0)
-Fine now (guest Q T (suc jobs) c d own lent) = (1 ≤ Q) × (1 ≤ T) × (now ≤ d)
+Fine now (guest Q T zero c d own borrowed) = (1 ≤ Q) × (1 ≤ T) × (c ≡ 0)
+Fine now (guest Q T (suc jobs) c d own borrowed) = (1 ≤ Q) × (1 ≤ T) × (now ≤ d)
 
 -- after step 1, who can't run has a deadline ahead
 abbrev pub Set : ℕ → Guest → Type 0
-Set now (guest Q T zero c d own lent) = (1 ≤ Q) × (1 ≤ T) × (c ≡ 0)
-Set now (guest Q T (suc jobs) zero d own lent) = (1 ≤ Q) × (1 ≤ T) × (now < d)
-Set now (guest Q T (suc jobs) (suc c) d own lent) = (1 ≤ Q) × (1 ≤ T) × (now ≤ d)
+Set now (guest Q T zero c d own borrowed) = (1 ≤ Q) × (1 ≤ T) × (c ≡ 0)
+Set now (guest Q T (suc jobs) zero d own borrowed) = (1 ≤ Q) × (1 ≤ T) × (now < d)
+Set now (guest Q T (suc jobs) (suc c) d own borrowed) = (1 ≤ Q) × (1 ≤ T) × (now ≤ d)
 
 div-le : (T x y : ℕ) → 1 ≤ T → x ≤ y → x / T ≤ y / T
 div-le T x y l h = le-div-iff-mul-le l .1 (le-trans (div-mul-le-self x T) h)
@@ -129,8 +129,8 @@ div-le T x y l h = le-div-iff-mul-le l .1 (le-trans (div-mul-le-self x T) h)
 -- time passes
 pub owed-later : (now D : ℕ) (g : Guest) → Fine (now + 1) g → owed (now + 1) D g ≤ owed now D g
 unfolding owed
-owed-later now D (guest Q T zero c d own lent) p = omega (arith, mul-le-mul-left Q (div-le T (D - max (now + 1) d) (D - max now d) (p .1) (omega arith)))
-owed-later now D (guest Q T (suc jobs) c d own lent) p = omega (arith, mul-le-mul-left Q (div-le T (D - max (now + 1) d) (D - max now d) (p .1) (omega arith)))
+owed-later now D (guest Q T zero c d own borrowed) p = omega (arith, mul-le-mul-left Q (div-le T (D - max (now + 1) d) (D - max now d) (p .1) (omega arith)))
+owed-later now D (guest Q T (suc jobs) c d own borrowed) p = omega (arith, mul-le-mul-left Q (div-le T (D - max (now + 1) d) (D - max now d) (p .1) (omega arith)))
 
 -- a new budget and a later deadline: no more is owed
 refill : (now D Q T x : ℕ) → now ≤ x → 1 ≤ T → due (x + T) D Q + Q * ((D - max now (x + T)) / T) ≤ Q * ((D - x) / T)
@@ -146,44 +146,44 @@ refill now D Q T x h l =
 
 pub owed-join : (now D : ℕ) (g : Guest) → Fine now g → owed now D (join now g) ≤ owed now D g
 unfolding owed
-owed-join now D (guest Q T zero c d own lent) p = omega (arith, refill now D Q T (max now d) (omega arith) (p .1))
-owed-join now D (guest Q T (suc jobs) c d own lent) p = omega arith
+owed-join now D (guest Q T zero c d own borrowed) p = omega (arith, refill now D Q T (max now d) (omega arith) (p .1))
+owed-join now D (guest Q T (suc jobs) c d own borrowed) p = omega arith
 
 pub owed-renew : (now D : ℕ) (g : Guest) → Fine now g → owed now D (renew g) ≤ owed now D g
 unfolding owed
-owed-renew now D (guest Q T zero c d own lent) p = omega arith
-owed-renew now D (guest Q T (suc jobs) zero d own lent) p =
+owed-renew now D (guest Q T zero c d own borrowed) p = omega arith
+owed-renew now D (guest Q T (suc jobs) zero d own borrowed) p =
     let f : max now d ≡ d = omega arith in
     rw f (omega (arith, refill now D Q T d (p .2) (p .1)))
-owed-renew now D (guest Q T (suc jobs) (suc c) d own lent) p = omega arith
+owed-renew now D (guest Q T (suc jobs) (suc c) d own borrowed) p = omega arith
 
 -- what a guest leaves moves to a spare with its deadline
 pub owed-finish : (now D i : ℕ) (g : Guest) (ss : List Spare) → total (held D) (leave i g ss) + owed now D (finish g) ≤ total (held D) ss + owed now D g
 unfolding owed held
-owed-finish now D i (guest Q T zero c d own lent) ss = omega arith
-owed-finish now D i (guest Q T (suc zero) zero d own lent) ss = omega arith
-owed-finish now D i (guest Q T (suc zero) (suc c) d own lent) ss = omega (arith, total-insert (held D) (spare d i (suc c)) ss, due-zero d D)
-owed-finish now D i (guest Q T (suc (suc jobs)) c d own lent) ss = omega arith
+owed-finish now D i (guest Q T zero c d own borrowed) ss = omega arith
+owed-finish now D i (guest Q T (suc zero) zero d own borrowed) ss = omega arith
+owed-finish now D i (guest Q T (suc zero) (suc c) d own borrowed) ss = omega (arith, total-insert (held D) (spare d i (suc c)) ss, due-zero d D)
+owed-finish now D i (guest Q T (suc (suc jobs)) c d own borrowed) ss = omega arith
 
 -- to run: no more is owed
 pub owed-ran : (n k now D : ℕ) (g : Guest) → owed now D (ran n k g) ≤ owed now D g
 unfolding owed
-owed-ran n k now D (guest Q T jobs c d own lent) = omega (arith, due-less n d D c)
+owed-ran n k now D (guest Q T jobs c d own borrowed) = omega (arith, due-less n d D c)
 
 -- and a tick on the own budget is paid
 pub owed-paid : (now D : ℕ) (g : Guest) → canRun g ≡ true → deadlineOf g ≤ D → owed now D (ran 1 0 g) + 1 ≤ owed now D g
 unfolding owed
-owed-paid now D (guest Q T zero c d own lent) h l = never h refl
-owed-paid now D (guest Q T (suc jobs) zero d own lent) h l = never h refl
-owed-paid now D (guest Q T (suc jobs) (suc c) d own lent) h l = omega (arith, due-in d D (suc c) l, due-in d D (suc c - 1) l)
+owed-paid now D (guest Q T zero c d own borrowed) h l = never h refl
+owed-paid now D (guest Q T (suc jobs) zero d own borrowed) h l = never h refl
+owed-paid now D (guest Q T (suc jobs) (suc c) d own borrowed) h l = omega (arith, due-in d D (suc c) l, due-in d D (suc c - 1) l)
 
 -- at D = now nothing is due: what a guest holds is ahead
 abbrev pub Ahead : ℕ → Guest → Type 0
-Ahead now g = 0 < leftOf g → now < deadlineOf g
+Ahead now g = 0 < currentOf g → now < deadlineOf g
 
 pub owed-ahead : (now : ℕ) (g : Guest) → owed now now g ≤ 0 → Ahead now g
 unfolding owed
-owed-ahead now (guest Q T jobs c d own lent) h k =
+owed-ahead now (guest Q T jobs c d own borrowed) h k =
     by-leb (λ t. now < d) d now (λ l. omega (arith, due-in d now c l)) (λ l. omega arith)
 
 -- where whoever can run is past D, only what can still be issued is left
@@ -195,9 +195,9 @@ issued now D Q T d l = omega (arith, due-zero d D, mul-le-mul-left Q (div-le T (
 
 pub owed-late : (now D : ℕ) (g : Guest) → Fine now g → Late D g → owed now D g ≤ shareOf (D - now) (entryOf g)
 unfolding owed
-owed-late now D (guest Q T zero c d own lent) p a = rw (p .2) (issued now D Q T d (p .1))
-owed-late now D (guest Q T (suc jobs) zero d own lent) p a = issued now D Q T d (p .1)
-owed-late now D (guest Q T (suc jobs) (suc c) d own lent) p a =
+owed-late now D (guest Q T zero c d own borrowed) p a = rw (p .2) (issued now D Q T d (p .1))
+owed-late now D (guest Q T (suc jobs) zero d own borrowed) p a = issued now D Q T d (p .1)
+owed-late now D (guest Q T (suc jobs) (suc c) d own borrowed) p a =
     let l : D < d = a refl in
     let f : D - max now d ≡ 0 = omega arith in
     rw (due-out, f, zero-div) (omega arith)

@@ -53,7 +53,7 @@ zip-places (e ∷ es) (g ∷ gs) h = ap {B = List GuestPlace} (λ r. g ∷ r) (z
 zip-guests : (gs : List Guest) → zipWith guestOf (map entryOf gs) (map guestPlace gs) ≡ gs
 unfolding zipWith
 zip-guests [] = refl
-zip-guests (guest Q T jobs c d own lent ∷ gs) = ap {B = List Guest} (λ r. guest Q T jobs c d own lent ∷ r) (zip-guests gs)
+zip-guests (guest Q T jobs c d own borrowed ∷ gs) = ap {B = List Guest} (λ r. guest Q T jobs c d own borrowed ∷ r) (zip-guests gs)
 
 place-spares : (ss : List Spare) → map spareOf (map sparePlace ss) ≡ ss
 place-spares [] = refl
@@ -67,16 +67,16 @@ spare-places (x ∷ xs) = ap {B = List SparePlace} (λ r. x ∷ r) (spare-places
 
 pub guest-zero : (g : GuestPlace) → guestPlaceIsZero g ≡ true → g ≡ noGuestPlace
 guest-zero g h =
-    let a = and-both (eqb (g .jobs) 0 && eqb (g .left) 0 && eqb (g .deadline) 0 && eqb (g .own) 0) (eqb (g .lent) 0) h in
-    let b = and-both (eqb (g .jobs) 0 && eqb (g .left) 0 && eqb (g .deadline) 0) (eqb (g .own) 0) (a .0) in
-    let c = and-both (eqb (g .jobs) 0 && eqb (g .left) 0) (eqb (g .deadline) 0) (b .0) in
-    let d = and-both (eqb (g .jobs) 0) (eqb (g .left) 0) (c .0) in
+    let a = and-both (eqb (g .jobs) 0 && eqb (g .current) 0 && eqb (g .deadline) 0 && eqb (g .own) 0) (eqb (g .borrowed) 0) h in
+    let b = and-both (eqb (g .jobs) 0 && eqb (g .current) 0 && eqb (g .deadline) 0) (eqb (g .own) 0) (a .0) in
+    let c = and-both (eqb (g .jobs) 0 && eqb (g .current) 0) (eqb (g .deadline) 0) (b .0) in
+    let d = and-both (eqb (g .jobs) 0) (eqb (g .current) 0) (c .0) in
     let jobs = eqb-true (g .jobs) 0 (d .0) in
-    let left = eqb-true (g .left) 0 (d .1) in
+    let left = eqb-true (g .current) 0 (d .1) in
     let deadline = eqb-true (g .deadline) 0 (c .1) in
     let own = eqb-true (g .own) 0 (b .1) in
-    let lent = eqb-true (g .lent) 0 (a .1) in
-    λ i. record { jobs = jobs i; left = left i; deadline = deadline i; own = own i; lent = lent i }
+    let borrowed = eqb-true (g .borrowed) 0 (a .1) in
+    λ i. record { jobs = jobs i; current = left i; deadline = deadline i; own = own i; borrowed = borrowed i }
 
 pub spare-zero : (x : SparePlace) → sparePlaceIsZero x ≡ true → x ≡ noSparePlace
 spare-zero x h =
@@ -97,7 +97,7 @@ model-packed m =
     let xs = take-padded sparePlaces noSparePlace (length (m .spares)) (map sparePlace (m .spares)) (length-map (m .spares) sparePlace) in
     let guests = ap₂ (λ (a : List Entry) (b : List GuestPlace). zipWith guestOf a b) es gs ∙ zip-guests (m .guests) in
     let spares = ap (λ (a : List SparePlace). map spareOf a) xs ∙ place-spares (m .spares) in
-    λ i. record { frame = m .frame; now = m .now; guests = guests i; spares = spares i; burned = m .burned; idle = m .idle }
+    λ i. record { frame = m .frame; now = m .now; guests = guests i; spares = spares i; burned = m .burned; empty = m .empty }
 
 -- a model's table has the entries of its guests
 pub table-entries : (m : Model) → entriesOf (tableOf m) ≡ map entryOf (m .guests)
@@ -112,20 +112,20 @@ packed-unused m g s =
     (unused-padded sparePlaceIsZero sparePlaces noSparePlace (length (m .spares)) (map sparePlace (m .spares)) refl (length-map (m .spares) sparePlace) s)
 
 -- a state whose other places are not used is its model in places
-module _ (s : State) (t : Good (s .table)) (fits : s .count ≤ sparePlaces) (rest : unusedZero s ≡ true) where
-  both : (unused guestPlaceIsZero guestPlaces (s .table .count) (s .guests) ≡ true) × (unused sparePlaceIsZero sparePlaces (s .count) (s .spares) ≡ true)
-  both = and-both (unused guestPlaceIsZero guestPlaces (s .table .count) (s .guests)) (unused sparePlaceIsZero sparePlaces (s .count) (s .spares)) rest
+module _ (s : State) (t : Good (s .table)) (fits : s .listed ≤ sparePlaces) (rest : unusedZero s ≡ true) where
+  both : (unused guestPlaceIsZero guestPlaces (s .table .count) (s .guests) ≡ true) × (unused sparePlaceIsZero sparePlaces (s .listed) (s .spares) ≡ true)
+  both = and-both (unused guestPlaceIsZero guestPlaces (s .table .count) (s .guests)) (unused sparePlaceIsZero sparePlaces (s .listed) (s .spares)) rest
 
   guests-long : length (take (s .table .count) (s .guests)) ≡ s .table .count
   guests-long =
       length-take-le (s .table .count) (s .guests)
       (omega (arith, t .count-high, length-places guestPlaceIsZero noGuestPlace guest-zero guestPlaces (s .table .count) (s .guests) (both .0)))
 
-  spares-long : length (map spareOf (take (s .count) (s .spares))) ≡ s .count
+  spares-long : length (map spareOf (take (s .listed) (s .spares))) ≡ s .listed
   spares-long =
-      length-map (take (s .count) (s .spares)) spareOf
-      ∙ length-take-le (s .count) (s .spares)
-      (omega (arith, fits, length-places sparePlaceIsZero noSparePlace spare-zero sparePlaces (s .count) (s .spares) (both .1)))
+      length-map (take (s .listed) (s .spares)) spareOf
+      ∙ length-take-le (s .listed) (s .spares)
+      (omega (arith, fits, length-places sparePlaceIsZero noSparePlace spare-zero sparePlaces (s .listed) (s .spares) (both .1)))
 
   pub model-long : length (model s .guests) ≡ s .table .count
   unfolding model
@@ -145,6 +145,6 @@ module _ (s : State) (t : Good (s .table)) (fits : s .count ≤ sparePlaces) (re
       let gs = zip-places (entriesOf (s .table)) (take (s .table .count) (s .guests)) (t .long ∙ sym guests-long) in
       let table = table-model in
       let guests = ap (λ (a : List GuestPlace). padded guestPlaces noGuestPlace a) gs ∙ padded-take guestPlaceIsZero noGuestPlace guest-zero guestPlaces (s .table .count) (s .guests) (both .0) (t .count-high) in
-      let spares = ap (λ (a : List SparePlace). padded sparePlaces noSparePlace a) (spare-places (take (s .count) (s .spares))) ∙ padded-take sparePlaceIsZero noSparePlace spare-zero sparePlaces (s .count) (s .spares) (both .1) fits in
+      let spares = ap (λ (a : List SparePlace). padded sparePlaces noSparePlace a) (spare-places (take (s .listed) (s .spares))) ∙ padded-take sparePlaceIsZero noSparePlace spare-zero sparePlaces (s .listed) (s .spares) (both .1) fits in
       let count = spares-long in
-      λ i. record { table = table i; now = s .now; guests = guests i; count = count i; spares = spares i; burned = s .burned; idle = s .idle }
+      λ i. record { table = table i; now = s .now; guests = guests i; listed = count i; spares = spares i; burned = s .burned; empty = s .empty }

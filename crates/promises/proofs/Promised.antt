@@ -14,7 +14,7 @@ use Rattle.rules.specs.declared.Table.{Table}
 use Rattle.rules.specs.declared.State.{State}
 use Rattle.rules.specs.Refusals.{Row, first}
 use Rattle.rules.specs.Table.{shareOf, entriesOf, tableRows, goodTable}
-use Rattle.rules.specs.Model.{Guest, guest, Spare, Model, budgetOf, leftOf, deadlineOf, ownOf, lentOf, active, noGuest, guestAt}
+use Rattle.rules.specs.Model.{Guest, guest, Spare, Model, budgetOf, currentOf, deadlineOf, ownOf, borrowedOf, active, noGuest, guestAt}
 use Rattle.rules.specs.Steps.{join, finish, arrive, done, renew, renewed, Source, ownBudget, spareOf, Use, runs, burns, nothing, Portion, portion, useOf, next, ran, charge, serve, tick, advance, ask}
 use Rattle.rules.specs.Places.{model, packed, freshState, entryOf}
 use Rattle.rules.specs.Calls.{arriveRows, doneRows, advanceRows, named, told, moved, Call, arrives, finishes, advances, asks, asksActive, asksMargin, numberGiven, stateAfter, run}
@@ -70,10 +70,10 @@ run-is-steps (c ∷ cs) s =
 
 -- after step 1 every active guest can run
 renew-can : (now : ℕ) (g : Guest) → Fine now g → canRun (renew g) ≡ active (renew g)
-renew-can now (guest Q T zero c d own lent) p = refl
-renew-can now (guest zero T (suc jobs) zero d own lent) p = absurd (omega arith)
-renew-can now (guest (suc Q) T (suc jobs) zero d own lent) p = refl
-renew-can now (guest Q T (suc jobs) (suc c) d own lent) p = refl
+renew-can now (guest Q T zero c d own borrowed) p = refl
+renew-can now (guest zero T (suc jobs) zero d own borrowed) p = absurd (omega arith)
+renew-can now (guest (suc Q) T (suc jobs) zero d own borrowed) p = refl
+renew-can now (guest Q T (suc jobs) (suc c) d own borrowed) p = refl
 
 first-earliest : (gs : List Guest) → ((k : ℕ) → canRun (guestAt k gs) ≡ active (guestAt k gs)) → (i : ℕ) → RunsFirst gs i → Earliest gs i
 first-earliest gs same i r = record { place = r .place; can = same i ∙ r .is-active; smallest = λ k c. r .smallest k (sym (same k) ∙ c) }
@@ -106,12 +106,12 @@ after-kept (e ∷ es) m k = after-kept es (happen e m) (legal-kept k (happen-leg
 -- ---- from a fresh state
 
 still-fine : (g : Guest) → Served g × Still g → Fine 0 g
-still-fine (guest Q T zero c d own lent) p = omega arith
-still-fine (guest Q T (suc jobs) c d own lent) p = absurd (omega arith)
+still-fine (guest Q T zero c d own borrowed) p = omega arith
+still-fine (guest Q T (suc jobs) c d own borrowed) p = absurd (omega arith)
 
 still-late : (D : ℕ) (g : Guest) → Still g → Late D g
-still-late D (guest Q T zero c d own lent) p h = never h refl
-still-late D (guest Q T (suc jobs) c d own lent) p h = absurd (omega arith)
+still-late D (guest Q T zero c d own borrowed) p h = never h refl
+still-late D (guest Q T (suc jobs) c d own borrowed) p h = absurd (omega arith)
 
 fresh-kept : (t : Table) → first (tableRows t) ≡ 0 → Kept (model (freshState t))
 unfolding model freshState goodTable
@@ -196,28 +196,28 @@ module _ (tally : Guest → ℕ) (count : Source → ℕ) (t : Tally tally count
 
 -- an arrival, a completion and a renewal change neither tally
 abbrev tallyPair : Guest → ℕ × ℕ
-tallyPair g = (ownOf g, lentOf g)
+tallyPair g = (ownOf g, borrowedOf g)
 
 join-tallies : (now : ℕ) (g : Guest) → tallyPair (join now g) ≡ tallyPair g
-join-tallies now (guest Q T zero c d own lent) = refl
-join-tallies now (guest Q T (suc jobs) c d own lent) = refl
+join-tallies now (guest Q T zero c d own borrowed) = refl
+join-tallies now (guest Q T (suc jobs) c d own borrowed) = refl
 
 finish-tallies : (g : Guest) → tallyPair (finish g) ≡ tallyPair g
-finish-tallies (guest Q T zero c d own lent) = refl
-finish-tallies (guest Q T (suc zero) c d own lent) = refl
-finish-tallies (guest Q T (suc (suc jobs)) c d own lent) = refl
+finish-tallies (guest Q T zero c d own borrowed) = refl
+finish-tallies (guest Q T (suc zero) c d own borrowed) = refl
+finish-tallies (guest Q T (suc (suc jobs)) c d own borrowed) = refl
 
 renew-tallies : (g : Guest) → tallyPair (renew g) ≡ tallyPair g
-renew-tallies (guest Q T zero c d own lent) = refl
-renew-tallies (guest Q T (suc jobs) zero d own lent) = refl
-renew-tallies (guest Q T (suc jobs) (suc c) d own lent) = refl
+renew-tallies (guest Q T zero c d own borrowed) = refl
+renew-tallies (guest Q T (suc jobs) zero d own borrowed) = refl
+renew-tallies (guest Q T (suc jobs) (suc c) d own borrowed) = refl
 
 -- to run counts in both
 own-ran : (n k : ℕ) (g : Guest) → ownOf (ran n k g) ≡ ownOf g + n
-own-ran n k (guest Q T jobs c d own lent) = refl
+own-ran n k (guest Q T jobs c d own borrowed) = refl
 
-lent-ran : (n k : ℕ) (g : Guest) → lentOf (ran n k g) ≡ lentOf g + k
-lent-ran n k (guest Q T jobs c d own lent) = refl
+borrowed-ran : (n k : ℕ) (g : Guest) → borrowedOf (ran n k g) ≡ borrowedOf g + k
+borrowed-ran n k (guest Q T jobs c d own borrowed) = refl
 
 -- one of the two
 tally-of : (pick : ℕ × ℕ → ℕ) (count : Source → ℕ) → ((g : Guest) → pick (tallyPair (ran 1 0 g)) ≡ pick (tallyPair g) + count ownBudget) → ((owner : ℕ) (g : Guest) → pick (tallyPair (ran 0 1 g)) ≡ pick (tallyPair g) + count (spareOf owner)) → Tally (λ g. pick (tallyPair g)) count
@@ -227,13 +227,13 @@ tally-of pick count budget spare =
 own-tally : Tally ownOf onBudget
 own-tally = tally-of (λ p. p .0) onBudget (own-ran 1 0) (λ owner. own-ran 0 1)
 
-lent-tally : Tally lentOf onSpare
-lent-tally = tally-of (λ p. p .1) onSpare (lent-ran 1 0) (λ owner. lent-ran 0 1)
+borrowed-tally : Tally borrowedOf onSpare
+borrowed-tally = tally-of (λ p. p .1) onSpare (borrowed-ran 1 0) (λ owner. borrowed-ran 0 1)
 
 pub counts-are-tallies : CountsAreTallies
 counts-are-tallies i k cs s =
     let es = take k (events cs s) in
-    (counts ownOf onBudget own-tally i es (model s), counts lentOf onSpare lent-tally i es (model s))
+    (counts ownOf onBudget own-tally i es (model s), counts borrowedOf onSpare borrowed-tally i es (model s))
 
 -- ---- the second half
 
@@ -247,9 +247,9 @@ awake-steps i (e ∷ es) m kept (suc k) stays =
     onward (stays 0 (omega arith)) l (awake-steps i es (happen e m) (legal-kept kept l) k (λ j h. stays (suc j) (omega arith)))
 
 -- a woken guest holds its whole budget
-woken-whole : (now : ℕ) (g : Guest) → active g ≡ false → leftOf (join now g) ≡ budgetOf (join now g)
-woken-whole now (guest Q T zero c d own lent) h = refl
-woken-whole now (guest Q T (suc jobs) c d own lent) h = never refl h
+woken-whole : (now : ℕ) (g : Guest) → active g ≡ false → currentOf (join now g) ≡ budgetOf (join now g)
+woken-whole now (guest Q T zero c d own borrowed) h = refl
+woken-whole now (guest Q T (suc jobs) c d own borrowed) h = never refl h
 
 -- the state that an accepted arrival leaves, and the guest in it
 arrived : (s : State) (i : ℕ) → numberGiven (arrives i) s ≡ 0 → model (stateAfter (arrives i) s) ≡ arrive i (model s)
@@ -266,7 +266,7 @@ second-half t h earlier cs i wakes k stays due =
     let w = stateAfter (arrives i) s in
     let kept : Kept (model w) = rw (call-steps (arrives i) s) (after-kept (eventsOf (arrives i) s) (model s) (run-kept t h earlier)) in
     let awake = awake-steps i (events cs w) (model w) kept k stays in
-    let whole : leftOf (named w i) ≡ budgetOf (named w i) = rw (woken s i (wakes .accepted)) (woken-whole (model s .now) (named s i) (wakes .was-idle)) in
+    let whole : currentOf (named w i) ≡ budgetOf (named w i) = rw (woken s i (wakes .accepted)) (woken-whole (model s .now) (named s i) (wakes .was-idle)) in
     omega (arith, served kept awake (omega (arith, due)), counts-are-tallies i k cs w .0, whole)
 
 -- more steps count no less
@@ -291,5 +291,5 @@ any-fair-first-half t h {m} r = not-overdue m (reach-kept (fresh-kept t h) r)
 
 pub any-fair-second-half : (t : Table) → first (tableRows t) ≡ 0 → {i : ℕ} {m n : Model} → Reach (model (freshState t)) m → Awake i m n
     → deadlineOf (guestAt i (m .guests)) ≤ n .now
-    → ownOf (guestAt i (m .guests)) + leftOf (guestAt i (m .guests)) ≤ ownOf (guestAt i (n .guests))
+    → ownOf (guestAt i (m .guests)) + currentOf (guestAt i (m .guests)) ≤ ownOf (guestAt i (n .guests))
 any-fair-second-half t h r w l = served (reach-kept (fresh-kept t h) r) w l

@@ -8,7 +8,7 @@ use native.Mathlib.Omega.{arith}
 use lib.ListN.{length, List·getD-eq-default, List·getD-map}
 use Rattle.laws.proofs.Cases.{never, by-leb}
 use Rattle.laws.proofs.Elements.{all-at, all-get, all-imp, total-none, at-either}
-use Rattle.rules.specs.Model.{Guest, guest, spare, Model, leftOf, deadlineOf, ownOf, active, noGuest, guestAt}
+use Rattle.rules.specs.Model.{Guest, guest, spare, Model, currentOf, deadlineOf, ownOf, active, noGuest, guestAt}
 use Rattle.rules.specs.Steps.{join, arrive, finish, done, renew, renewed, ownBudget, spareOf, Use, runs, burns, nothing, useOf, ran, charge}
 use Rattle.promises.specs.Promises.{NothingOverdue}
 use Rattle.promises.proofs.Owed.{held, held-ahead, owed, Fine, Ahead, owed-ahead}
@@ -27,7 +27,7 @@ not-overdue m k =
 
 -- since it had run R less its budget then, with deadline D: it still has that deadline and the rest, or has had R
 abbrev Since : ℕ → ℕ → Guest → Type 0
-Since D R g = ((deadlineOf g ≡ D) × (R ≤ ownOf g + leftOf g)) ⊎ ((D < deadlineOf g) × (R ≤ ownOf g))
+Since D R g = ((deadlineOf g ≡ D) × (R ≤ ownOf g + currentOf g)) ⊎ ((D < deadlineOf g) × (R ≤ ownOf g))
 
 -- that, of an active guest
 abbrev pub Had : ℕ → ℕ → Guest → Type 0
@@ -39,29 +39,29 @@ If D R g = active g ≡ true → Since D R g
 
 module _ (D R : ℕ) where
   had-join : (now : ℕ) (g : Guest) → Had D R g → If D R (join now g)
-  had-join now (guest Q T zero c d own lent) h a = never (h .0) refl
-  had-join now (guest Q T (suc jobs) c d own lent) h a = h .1
+  had-join now (guest Q T zero c d own borrowed) h a = never (h .0) refl
+  had-join now (guest Q T (suc jobs) c d own borrowed) h a = h .1
 
   had-finish : (g : Guest) → Had D R g → If D R (finish g)
-  had-finish (guest Q T zero c d own lent) h a = never (h .0) refl
-  had-finish (guest Q T (suc zero) c d own lent) h a = never a refl
-  had-finish (guest Q T (suc (suc jobs)) c d own lent) h a = h .1
+  had-finish (guest Q T zero c d own borrowed) h a = never (h .0) refl
+  had-finish (guest Q T (suc zero) c d own borrowed) h a = never a refl
+  had-finish (guest Q T (suc (suc jobs)) c d own borrowed) h a = h .1
 
   -- a renewal comes only where all was had
   had-renew : (now : ℕ) (g : Guest) → Fine now g → Had D R g → Had D R (renew g)
-  had-renew now (guest Q T zero c d own lent) p h = never (h .0) refl
-  had-renew now (guest Q T (suc jobs) zero d own lent) p h = (refl, spent (h .1))
+  had-renew now (guest Q T zero c d own borrowed) p h = never (h .0) refl
+  had-renew now (guest Q T (suc jobs) zero d own borrowed) p h = (refl, spent (h .1))
     where
-      spent : Since D R (guest Q T (suc jobs) 0 d own lent) → Since D R (guest Q T (suc jobs) Q (d + T) own lent)
+      spent : Since D R (guest Q T (suc jobs) 0 d own borrowed) → Since D R (guest Q T (suc jobs) Q (d + T) own borrowed)
       spent (inl s) = inr (omega arith)
       spent (inr s) = inr (omega arith)
-  had-renew now (guest Q T (suc jobs) (suc c) d own lent) p h = h
+  had-renew now (guest Q T (suc jobs) (suc c) d own borrowed) p h = h
 
   had-ran : (n k : ℕ) (g : Guest) → Had D R g → Had D R (ran n k g)
-  had-ran n k (guest Q T zero c d own lent) h = never (h .0) refl
-  had-ran n k (guest Q T (suc jobs) c d own lent) h = (refl, since (h .1))
+  had-ran n k (guest Q T zero c d own borrowed) h = never (h .0) refl
+  had-ran n k (guest Q T (suc jobs) c d own borrowed) h = (refl, since (h .1))
     where
-      since : Since D R (guest Q T (suc jobs) c d own lent) → Since D R (ran n k (guest Q T (suc jobs) c d own lent))
+      since : Since D R (guest Q T (suc jobs) c d own borrowed) → Since D R (ran n k (guest Q T (suc jobs) c d own borrowed))
       since (inl s) = inl (omega arith)
       since (inr s) = inr (omega arith)
 
@@ -94,7 +94,7 @@ module _ (D R : ℕ) where
   had-all i m k h l = go (guestAt i (m .guests)) (not-overdue m k .0 i) (h .1)
     where
       go : (g : Guest) → Ahead (m .now) g → Since D R g → R ≤ ownOf g
-      go g a (inl s) = by-leb (λ t. R ≤ ownOf g) 1 (leftOf g) (λ p. absurd (omega (arith, a p))) (λ p. omega arith)
+      go g a (inl s) = by-leb (λ t. R ≤ ownOf g) 1 (currentOf g) (λ p. absurd (omega (arith, a p))) (λ p. omega arith)
       go g a (inr s) = s .1
 
 -- ---- the lemma, over runs with any fair choices
@@ -113,8 +113,8 @@ awake-had D R (there a) k h = (k, h)
 awake-had D R {i} (onward a l w) k h = awake-had D R w (legal-kept k l) (step-had D R i k l h (awake w))
 
 -- by the deadline that it has at first, it has run on its own what it holds at first
-pub served : {i : ℕ} {m n : Model} → Kept m → Awake i m n → deadlineOf (guestAt i (m .guests)) ≤ n .now → ownOf (guestAt i (m .guests)) + leftOf (guestAt i (m .guests)) ≤ ownOf (guestAt i (n .guests))
+pub served : {i : ℕ} {m n : Model} → Kept m → Awake i m n → deadlineOf (guestAt i (m .guests)) ≤ n .now → ownOf (guestAt i (m .guests)) + currentOf (guestAt i (m .guests)) ≤ ownOf (guestAt i (n .guests))
 served {i} {m} {n} k w l =
     let g = guestAt i (m .guests) in
-    let h = awake-had (deadlineOf g) (ownOf g + leftOf g) w k (awake w, inl (refl, omega arith)) in
-    had-all (deadlineOf g) (ownOf g + leftOf g) i n (h .0) (h .1) l
+    let h = awake-had (deadlineOf g) (ownOf g + currentOf g) w k (awake w, inl (refl, omega arith)) in
+    had-all (deadlineOf g) (ownOf g + currentOf g) i n (h .0) (h .1) l

@@ -13,7 +13,7 @@ use Rattle.laws.specs.Lists.{changed}
 use Rattle.laws.proofs.Cases.{and-both, never, by-test, by-leb}
 use Rattle.laws.proofs.Elements.{All, none, each, all-at, all-map, all-imp, all-changed, map-changed, at-same}
 use Rattle.rules.specs.Limits.{deadlineBound}
-use Rattle.rules.specs.Model.{Guest, guest, Spare, spare, Model, leftOf, deadlineOf, ownerOf, capacityOf, active, noGuest, guestAt}
+use Rattle.rules.specs.Model.{Guest, guest, Spare, spare, Model, currentOf, deadlineOf, ownerOf, capacityOf, active, noGuest, guestAt}
 use Rattle.rules.specs.Steps.{but, before, renew, renewed, Pick, nobody, picked, ready, sooner, earliest, ownBudget, spareOf, Use, runs, burns, nothing, Span, limited, endless, Portion, portion, useOf, spanOf, portionFor, next, spend, ran, charge, serve, tick, advance, ask}
 use Rattle.rules.specs.Places.{model}
 use Rattle.rules.specs.Sound.{rising}
@@ -29,7 +29,7 @@ within-fewer n endless h = tt
 -- ---- two charges are one
 
 ran-add : (a b n k : ℕ) (g : Guest) → ran n k (ran a b g) ≡ ran (a + n) (b + k) g
-ran-add a b n k (guest Q T jobs c d own lent) = rw (sub-add-eq, add-assoc, add-assoc)
+ran-add a b n k (guest Q T jobs c d own borrowed) = rw (sub-add-eq, add-assoc, add-assoc)
 
 -- the guest at i changed twice
 changed-again : (f g h : Guest → Guest) → ((x : Guest) → f (g x) ≡ h x) → (i : ℕ) (gs : List Guest) → changed i f (changed i g gs) ≡ changed i h gs
@@ -60,7 +60,7 @@ charge-add a b m nothing d span u h = rw (add-assoc, add-assoc)
 
 -- what the choice looks at: neither the budget that is left nor the tallies
 abbrev bare : Guest → Guest
-bare (guest Q T jobs c d own lent) = guest Q T jobs 0 d 0 0
+bare (guest Q T jobs c d own borrowed) = guest Q T jobs 0 d 0 0
 
 -- the pick without the budget
 abbrev barePick : Pick → Pick
@@ -68,9 +68,9 @@ barePick nobody = nobody
 barePick (picked i d c) = picked i d 0
 
 sooner-bare : (i : ℕ) (g : Guest) (q : Pick) → sooner (ready i (bare g)) (barePick q) ≡ barePick (sooner (ready i g) q)
-sooner-bare i (guest Q T zero c d own lent) q = refl
-sooner-bare i (guest Q T (suc jobs) c d own lent) nobody = refl
-sooner-bare i (guest Q T (suc jobs) c d own lent) (picked k e b) =
+sooner-bare i (guest Q T zero c d own borrowed) q = refl
+sooner-bare i (guest Q T (suc jobs) c d own borrowed) nobody = refl
+sooner-bare i (guest Q T (suc jobs) c d own borrowed) (picked k e b) =
     by-test (λ t. cond t (picked i d 0) (picked k e 0) ≡ barePick (cond t (picked i d c) (picked k e b))) (leb d e) (λ h. refl) (λ h. refl)
 
 earliest-bare : (i : ℕ) (gs : List Guest) → earliest i (map bare gs) ≡ barePick (earliest i gs)
@@ -83,10 +83,10 @@ some-budget (picked k e b) i d h = (b, cc)
 
 -- to run changes neither jobs nor deadline, and leaves the rest of the budget
 bare-ran : (n k : ℕ) (g : Guest) → bare (ran n k g) ≡ bare g
-bare-ran n k (guest Q T jobs c d own lent) = refl
+bare-ran n k (guest Q T jobs c d own borrowed) = refl
 
-left-ran : (n k : ℕ) (g : Guest) → leftOf (ran n k g) ≡ leftOf g - n
-left-ran n k (guest Q T jobs c d own lent) = refl
+left-ran : (n k : ℕ) (g : Guest) → currentOf (ran n k g) ≡ currentOf g - n
+left-ran n k (guest Q T jobs c d own borrowed) = refl
 
 pub limited-same : (a b : ℕ) → limited a ≡ limited b → a ≡ b
 limited-same a b e = cc
@@ -101,9 +101,9 @@ still-runs n k m i d c e =
     let q = some-budget (earliest 0 hs) i d same in
     let old : Uses gs [] (portion (runs i ownBudget) d (limited c)) = rw e at (next-uses (but m gs [])) in
     let new : Uses hs [] (portion (runs i ownBudget) d (limited (q .0))) = rw (q .1) at (next-uses (but m hs [])) in
-    let rest : q .0 ≡ leftOf (guestAt i hs) = limited-same (q .0) (leftOf (guestAt i hs)) (new .2) in
-    let whole : c ≡ leftOf (guestAt i gs) = limited-same c (leftOf (guestAt i gs)) (old .2) in
-    q .1 ∙ ap (picked i d) (rest ∙ ap leftOf (at-same noGuest i (ran n k) gs (old .0 .place)) ∙ left-ran n k (guestAt i gs) ∙ ap (λ (b : ℕ). b - n) (sym whole))
+    let rest : q .0 ≡ currentOf (guestAt i hs) = limited-same (q .0) (currentOf (guestAt i hs)) (new .2) in
+    let whole : c ≡ currentOf (guestAt i gs) = limited-same c (currentOf (guestAt i gs)) (old .2) in
+    q .1 ∙ ap (picked i d) (rest ∙ ap currentOf (at-same noGuest i (ran n k) gs (old .0 .place)) ∙ left-ran n k (guestAt i gs) ∙ ap (λ (b : ℕ). b - n) (sym whole))
 
 pick-stays : (n : ℕ) (m : Model) (q : Pick) (ss : List Spare) → earliest 0 (m .guests) ≡ q → m .spares ≡ ss → Within (suc n) (spanOf (portionFor q ss)) → next (charge n (useOf (portionFor q ss)) m) ≡ shorter n (portionFor q ss)
 unfolding next
@@ -123,8 +123,8 @@ next-stays n m h = pick-stays n m (earliest 0 (m .guests)) (m .spares) refl refl
 
 -- an active guest has budget left, and a period
 abbrev Funded : Guest → Type 0
-Funded (guest Q T zero c d own lent) = Unit {0}
-Funded (guest Q T (suc jobs) c d own lent) = (1 ≤ c) × (1 ≤ T)
+Funded (guest Q T zero c d own borrowed) = Unit {0}
+Funded (guest Q T (suc jobs) c d own borrowed) = (1 ≤ c) × (1 ≤ T)
 
 -- what the portions need to know of the model after step 1
 record Ready (m : Model) : Type 0 where
@@ -133,13 +133,13 @@ record Ready (m : Model) : Type 0 where
   order : rising (m .spares) ≡ true
 
 funded-renew : (bound : ℕ) (g : Guest) → GuestGood bound g → Funded (renew g)
-funded-renew bound (guest Q T zero c d own lent) p = tt
-funded-renew bound (guest Q T (suc jobs) zero d own lent) p = omega (arith, p .served)
-funded-renew bound (guest Q T (suc jobs) (suc c) d own lent) p = omega (arith, p .served)
+funded-renew bound (guest Q T zero c d own borrowed) p = tt
+funded-renew bound (guest Q T (suc jobs) zero d own borrowed) p = omega (arith, p .served)
+funded-renew bound (guest Q T (suc jobs) (suc c) d own borrowed) p = omega (arith, p .served)
 
 covers-some : (g : Guest) (x : Spare) → Covers g x → 1 ≤ capacityOf x
-covers-some (guest Q T zero c d own lent) (spare e owner b) p = p .0
-covers-some (guest Q T (suc jobs) c d own lent) (spare e owner b) p = p .0
+covers-some (guest Q T zero c d own borrowed) (spare e owner b) p = p .0
+covers-some (guest Q T (suc jobs) c d own borrowed) (spare e owner b) p = p .0
 
 renewed-ready : (m : Model) → Sane m → Ready (renewed m)
 unfolding renewed
@@ -150,9 +150,9 @@ renewed-ready m s =
       order = s .order;
     }
 
-funded-left : (g : Guest) → active g ≡ true → Funded g → 1 ≤ leftOf g
-funded-left (guest Q T zero c d own lent) a f = never a refl
-funded-left (guest Q T (suc jobs) c d own lent) a f = f .0
+funded-left : (g : Guest) → active g ≡ true → Funded g → 1 ≤ currentOf g
+funded-left (guest Q T zero c d own borrowed) a f = never a refl
+funded-left (guest Q T (suc jobs) c d own borrowed) a f = f .0
 
 first-some : (ss : List Spare) (owner d : ℕ) (span : Span) → FirstSpareIs ss owner d span → All (λ y. 1 ≤ capacityOf y) ss → Within 1 span
 first-some ss owner d span h ps = rw (h .2) (all-at (rw (h .1 .1) at ps) (spare d owner (h .0)) 0 (omega arith))
@@ -176,9 +176,9 @@ span-positive m s = some (ask m) (ask-uses m)
 
 -- ---- nothing is renewed while something is left of the portion
 
-funded-ran : (n k : ℕ) (g : Guest) → (active g ≡ true → n < leftOf g) → Funded g → Funded (ran n k g)
-funded-ran n k (guest Q T zero c d own lent) h f = tt
-funded-ran n k (guest Q T (suc jobs) c d own lent) h f = omega (arith, h refl)
+funded-ran : (n k : ℕ) (g : Guest) → (active g ≡ true → n < currentOf g) → Funded g → Funded (ran n k g)
+funded-ran n k (guest Q T zero c d own borrowed) h f = tt
+funded-ran n k (guest Q T (suc jobs) c d own borrowed) h f = omega (arith, h refl)
 
 funded-stays : (n : ℕ) (m : Model) (u : Use) (d : ℕ) (span : Span) → Uses (m .guests) (m .spares) (portion u d span) → Within (suc n) span → All Funded (m .guests) → All Funded (charge n u m .guests)
 funded-stays n m (runs i ownBudget) d span u h f = all-changed noGuest i (ran n 0) f (funded-ran n 0 (guestAt i (m .guests)) (λ a. rw (u .2) at h))
@@ -187,9 +187,9 @@ funded-stays n m (burns owner) d span u h f = f
 funded-stays n m nothing d span u h f = f
 
 renew-funded : (g : Guest) → Funded g → renew g ≡ g
-renew-funded (guest Q T zero c d own lent) f = refl
-renew-funded (guest Q T (suc jobs) zero d own lent) f = absurd (omega arith)
-renew-funded (guest Q T (suc jobs) (suc c) d own lent) f = refl
+renew-funded (guest Q T zero c d own borrowed) f = refl
+renew-funded (guest Q T (suc jobs) zero d own borrowed) f = absurd (omega arith)
+renew-funded (guest Q T (suc jobs) (suc c) d own borrowed) f = refl
 
 map-funded : {gs : List Guest} → All Funded gs → map renew gs ≡ gs
 map-funded none = refl
@@ -280,11 +280,11 @@ uses-due gs ss (burns owner) d span u = (u .1 .0, u .1 .1)
 uses-due gs ss nothing d span u = tt
 
 -- the budget used up, the renewal moves the deadline
-renew-later : (g : Guest) → active g ≡ true → Funded g → deadlineOf g < deadlineOf (renew (ran (leftOf g) 0 g))
-renew-later (guest Q T zero c d own lent) a f = never a refl
-renew-later (guest Q T (suc jobs) c d own lent) a f = rw (sub-self c) (omega arith)
+renew-later : (g : Guest) → active g ≡ true → Funded g → deadlineOf g < deadlineOf (renew (ran (currentOf g) 0 g))
+renew-later (guest Q T zero c d own borrowed) a f = never a refl
+renew-later (guest Q T (suc jobs) c d own borrowed) a f = rw (sub-self c) (omega arith)
 
-own-over : (i d n : ℕ) (gs : List Guest) → All Funded gs → RunsFirst gs i → d ≡ deadlineOf (guestAt i gs) → n ≡ leftOf (guestAt i gs) → d ≡ deadlineOf (guestAt i (map renew (changed i (ran n 0) gs))) → ⊥
+own-over : (i d n : ℕ) (gs : List Guest) → All Funded gs → RunsFirst gs i → d ≡ deadlineOf (guestAt i gs) → n ≡ currentOf (guestAt i gs) → d ≡ deadlineOf (guestAt i (map renew (changed i (ran n 0) gs))) → ⊥
 own-over i d n gs f u e l h =
     let g = guestAt i gs in
     let later = renew-later g (u .is-active) (all-at f noGuest i (u .place)) in
@@ -314,7 +314,7 @@ module _ (m : Model) (s : Sane m) where
       due (portion u d span) = uses-due (map renew (advance n m .guests)) (advance n m .spares) u d span
 
   over : (n : ℕ) (u : Use) (d : ℕ) → 1 ≤ n → Uses (renewed m .guests) (renewed m .spares) (portion u d (limited n)) → Due (map renew (charge n u (renewed m) .guests)) (charge n u (renewed m) .spares) u d → ⊥
-  over n (runs i ownBudget) d l u w = own-over i d n (renewed m .guests) (renewed-ready m s .guests) (u .0) (u .1) (limited-same n (leftOf (guestAt i (renewed m .guests))) (u .2)) w
+  over n (runs i ownBudget) d l u w = own-over i d n (renewed m .guests) (renewed-ready m s .guests) (u .0) (u .1) (limited-same n (currentOf (guestAt i (renewed m .guests))) (u .2)) w
   over n (runs i (spareOf owner)) d l u w = let e = limited-same n (u .1 .0) (u .1 .2) in spare-over d owner n (renewed m .spares) (renewed-ready m s .order) (rw e (u .1 .1)) w
   over n (burns owner) d l u w = let e = limited-same n (u .1 .0) (u .1 .2) in spare-over d owner n (renewed m .spares) (renewed-ready m s .order) (rw e (u .1 .1)) w
   over n nothing d l u w = let z : _≡_ {A = ℕ} 0 1 = cc in omega arith

@@ -27,7 +27,7 @@ use Rattle.promises.proofs.Calling.{run-sound, sound-not-one}
 
 -- every changing number is 0
 abbrev pub Still : Guest → Type 0
-Still (guest Q T jobs c d own lent) = (jobs ≡ 0) × (c ≡ 0) × (d ≡ 0) × (own ≡ 0) × (lent ≡ 0)
+Still (guest Q T jobs c d own borrowed) = (jobs ≡ 0) × (c ≡ 0) × (d ≡ 0) × (own ≡ 0) × (borrowed ≡ 0)
 
 all-still : (es : List Entry) (n k : ℕ) → All Still (zipWith guestOf es (take n (replicate k noGuestPlace)))
 unfolding zipWith
@@ -37,17 +37,17 @@ all-still (e ∷ es) (suc n) zero = none
 all-still (e ∷ es) (suc n) (suc k) = each {x = guest (e .budget) (e .period) 0 0 0 0 0} (refl, refl, refl, refl, refl) (all-still es n k)
 
 still-good : (bound : ℕ) (g : Guest) → Served g × Still g → GuestGood bound g
-still-good bound (guest Q T zero c d own lent) p = record { served = p .0; range = p .1 .1; early = omega arith }
-still-good bound (guest Q T (suc jobs) c d own lent) p = absurd (omega arith)
+still-good bound (guest Q T zero c d own borrowed) p = record { served = p .0; range = p .1 .1; early = omega arith }
+still-good bound (guest Q T (suc jobs) c d own borrowed) p = absurd (omega arith)
 
 no-tallies : {gs : List Guest} → All Still gs → total talliesOf gs ≡ 0
 no-tallies none = refl
-no-tallies (each {x = guest Q T jobs c d own lent} p ps) = omega (arith, no-tallies ps)
+no-tallies (each {x = guest Q T jobs c d own borrowed} p ps) = omega (arith, no-tallies ps)
 
 nobody-active : {gs : List Guest} → All Still gs → total bitOf gs ≡ 0
 nobody-active none = refl
-nobody-active (each {x = guest Q T zero c d own lent} p ps) = omega (arith, nobody-active ps)
-nobody-active (each {x = guest Q T (suc jobs) c d own lent} p ps) = absurd (omega arith)
+nobody-active (each {x = guest Q T zero c d own borrowed} p ps) = omega (arith, nobody-active ps)
+nobody-active (each {x = guest Q T (suc jobs) c d own borrowed} p ps) = absurd (omega arith)
 
 module _ (t : Table) (ok : goodTable t ≡ true) where
   fresh-unused : unusedZero (freshState t) ≡ true

@@ -7,7 +7,7 @@ use Rattle.rules.specs.declared.State.{State}
 use Rattle.rules.specs.Limits.{lastTick}
 use Rattle.rules.specs.Refusals.{first}
 use Rattle.rules.specs.Table.{tableRows, sharesOf}
-use Rattle.rules.specs.Model.{guest, jobsOf, leftOf, deadlineOf, dueOf, capacityOf}
+use Rattle.rules.specs.Model.{guest, jobsOf, currentOf, deadlineOf, dueOf, capacityOf}
 use Rattle.rules.specs.Places.{model, packed, freshState}
 use Rattle.rules.specs.Calls.{named, Call, arrives, finishes, advances, numberGiven, stateAfter, run}
 use Rattle.rules.specs.Samples.{_by_, table, alone, two}
@@ -27,7 +27,7 @@ jobs s = jobsOf (named s 0)
 
 -- its c
 abbrev pub left : State → ℕ
-left s = leftOf (named s 0)
+left s = currentOf (named s 0)
 
 -- its d
 abbrev pub deadline : State → ℕ
@@ -67,7 +67,7 @@ listingCalls =
 unfoldable pub endOfTime : State
 unfolding packed
 endOfTime =
-    packed (record { frame = 1; now = lastTick; guests = guest 1 1 0 0 0 0 0 ∷ []; spares = []; burned = 0; idle = lastTick })
+    packed (record { frame = 1; now = lastTick; guests = guest 1 1 0 0 0 0 0 ∷ []; spares = []; burned = 0; empty = lastTick })
 
 -- ---- the rows
 
@@ -103,7 +103,7 @@ renewalRows =
     says (values (deadline woken ∷ [])) (values (9 ∷ []))
     ∷ says (values (left spent ∷ deadline spent ∷ [])) (values (0 ∷ 9 ∷ []))
     ∷ says (values (deadline renewed ∷ left renewed ∷ [])) (values (15 ∷ 2 ∷ []))
-    ∷ says (values (jobs punctual ∷ punctual .count ∷ deadline punctual ∷ [])) (values (0 ∷ 0 ∷ 9 ∷ []))
+    ∷ says (values (jobs punctual ∷ punctual .listed ∷ deadline punctual ∷ [])) (values (0 ∷ 0 ∷ 9 ∷ []))
     ∷ []
 
 -- "(3, 4) and (2, 8), H = 8: accepted.", "(3, 4) and (3, 8): refusal 14, 9 against 8."

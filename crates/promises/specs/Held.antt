@@ -14,7 +14,7 @@ use Rattle.rules.specs.Samples.{running, resting, leftovers, sampleModel, sampl
 use Rattle.rules.specs.HeldSteps.{four, of, at10, then}
 use Rattle.promises.specs.Joining.{joined, walkedTo, leftAfter, uses, ticksOf}
 use Rattle.promises.specs.Spans.{fewer, shorter, Within, whose, Ends}
-use Rattle.promises.specs.Runs.{arrival, completion, oneTick, happen, afterAll, events, passed, onBudget, onSpare, tickBy, ownTicks, lentTicks}
+use Rattle.promises.specs.Runs.{arrival, completion, oneTick, happen, afterAll, events, passed, onBudget, onSpare, tickBy, ownTicks, borrowedTicks}
 use Rattle.promises.specs.Promises.{conditionAt, numberAt, Decides, rises, RunsFirst, canRun, NoneBy, NothingOverdue, bit, actives}
 use Rattle.promises.specs.Histories.{walkCall}
 
@@ -56,7 +56,7 @@ pub record RunsHeld : Type 0 where
   pub spare-tick : map (tickBy onSpare 1) (runs 1 (spareOf 4) ∷ runs 0 (spareOf 1) ∷ runs 1 ownBudget ∷ burns 1 ∷ nothing ∷ []) ≡ 1 ∷ 0 ∷ 0 ∷ 0 ∷ 0 ∷ []
   -- guest 0 runs 8 ticks on spares and then on its own budget, a completion and an arrival among them
   pub counts :
-      (lentTicks 0 12 (advances 9 ∷ finishes 0 ∷ arrives 0 ∷ advances 1 ∷ []) sample ∷ ownTicks 0 12 (advances 9 ∷ finishes 0 ∷ arrives 0 ∷ advances 1 ∷ []) sample ∷ ownTicks 0 10 (advances 10 ∷ []) sample ∷ ownTicks 1 10 (advances 10 ∷ []) sample ∷ [])
+      (borrowedTicks 0 12 (advances 9 ∷ finishes 0 ∷ arrives 0 ∷ advances 1 ∷ []) sample ∷ ownTicks 0 12 (advances 9 ∷ finishes 0 ∷ arrives 0 ∷ advances 1 ∷ []) sample ∷ ownTicks 0 10 (advances 10 ∷ []) sample ∷ ownTicks 1 10 (advances 10 ∷ []) sample ∷ [])
       ≡ 8 ∷ 2 ∷ 2 ∷ 0 ∷ []
 
 -- three rows, of which the second and the third hold
@@ -85,7 +85,7 @@ pub record WordsHeld : Type 0 where
   pub budget-overdue : NothingOverdue (then 11 (of 1 1 11 ∷ []) [] 4 6) → ⊥
   pub spare-overdue : NothingOverdue (then 11 (of 0 0 11 ∷ []) (spare 11 0 1 ∷ []) 4 6) → ⊥
   -- a walk of 7 ticks that left 2 is an advance by 5; a refused one is refused as it was asked for
-  pub walk-made : walkCall 7 (record { answer = Went; state = sample; left = 2; count = 0; lines = [] }) ≡ advances 5
-  pub walk-refused : walkCall 7 (record { answer = Refused EndOfTime; state = sample; left = 0; count = 0; lines = [] }) ≡ advances 7
+  pub walk-made : walkCall 7 (record { answer = Went; state = sample; left = 2; shown = 0; lines = [] }) ≡ advances 5
+  pub walk-refused : walkCall 7 (record { answer = Refused EndOfTime; state = sample; left = 0; shown = 0; lines = [] }) ≡ advances 7
   pub bits : (bit 0 6 ∷ bit 1 6 ∷ bit 2 6 ∷ bit 3 6 ∷ []) ≡ 0 ∷ 1 ∷ 1 ∷ 0 ∷ []
   pub active-ones : actives four ≡ guest 1 8 1 1 9 0 0 ∷ guest 1 8 3 1 9 0 0 ∷ []

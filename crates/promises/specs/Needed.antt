@@ -6,7 +6,7 @@ use Rattle.rules.specs.declared.Table.{Table}
 use Rattle.rules.specs.declared.State.{State}
 use Rattle.rules.specs.Refusals.{first}
 use Rattle.rules.specs.Table.{tableRows, sharesOf}
-use Rattle.rules.specs.Model.{guest, spare, Model, leftOf, deadlineOf, guestAt}
+use Rattle.rules.specs.Model.{guest, spare, Model, currentOf, deadlineOf, guestAt}
 use Rattle.rules.specs.Places.{model, packed, freshState}
 use Rattle.promises.specs.Runs.{arrival, oneTick, afterAll}
 use Rattle.rules.specs.Samples.{_by_, table}
@@ -14,7 +14,7 @@ use Rattle.promises.specs.Borders.{Border, values, says}
 
 -- the tick, and guest 1's c and d
 abbrev pub second : Model → List ℕ
-second m = m .now ∷ leftOf (guestAt 1 (m .guests)) ∷ deadlineOf (guestAt 1 (m .guests)) ∷ []
+second m = m .now ∷ currentOf (guestAt 1 (m .guests)) ∷ deadlineOf (guestAt 1 (m .guests)) ∷ []
 
 -- (3, 4) and (2, 4), H = 4: 5 against 4
 abbrev pub overfull : Table
@@ -29,7 +29,7 @@ line212 =
       guests = guest 2 4 1 2 4 0 0 ∷ guest 2 4 1 2 4 0 0 ∷ [];
       spares = spare 4 0 2 ∷ [];
       burned = 0;
-      idle = 0;
+      empty = 0;
     }
 
 -- the same in its places

@@ -24,14 +24,14 @@ use Rattle.rules.specs.declared.Walk.{Walk}
 use Rattle.rules.specs.Limits.{lastTick, linePlaces}
 use Rattle.rules.specs.Refusals.{Row, _gives_, first, numbers, holds, numberOf}
 use Rattle.rules.specs.Table.{tableRows, noTable}
-use Rattle.rules.specs.Model.{guest, budgetOf, ownOf, lentOf, capacityOf, spareAt, Guest, Spare, spare, Model, leftOf, deadlineOf, dueOf, active, guestAt, maskOf, activeCount, tallies}
+use Rattle.rules.specs.Model.{guest, budgetOf, ownOf, borrowedOf, capacityOf, spareAt, Guest, Spare, spare, Model, currentOf, deadlineOf, dueOf, active, guestAt, maskOf, activeCount, tallies}
 use Rattle.rules.specs.Steps.{ownBudget, spareOf, Use, runs, burns, nothing, Span, limited, endless, Portion, portion, renewed, next, advance}
 use Rattle.rules.specs.Places.{model, packed, freshState, noState}
 use Rattle.rules.specs.Sound.{sound}
 use Rattle.rules.specs.Image.{offsetIn, tableIn, readRows, imageOf, imageLength, writeRows, overwritten}
 use Rattle.rules.specs.Calls.{named, arrives, arriveRows, doneRows, advanceRows, askRows, marginRows, portionOf, Arrived, Finished, Advanced, AskedFor, ActiveTold, MarginTold, Freshened, TableChecked, NoTableMade, TableRead, EntriesHanded, NumberTold, ImageChecked, TableWritten, Call, advances, numberGiven, stateAfter, run}
 use Rattle.rules.specs.Walks.{declaredUse, useIn, Walked, noLine}
-use Rattle.promises.specs.Runs.{afterAll, events, passed, ownTicks, lentTicks}
+use Rattle.promises.specs.Runs.{afterAll, events, passed, ownTicks, borrowedTicks}
 use Rattle.promises.specs.Needed.{line212State, overfullRows, line212Rows}
 use Rattle.rules.specs.Samples.{alone}
 use Rattle.promises.specs.Borders.{Border, endOfTime}
@@ -132,9 +132,9 @@ pub record RefusalGivesBack : Type 0 where
   pub advance : (s : State) (k : ℕ) (r : Outcome) → Advanced s k r → 0 < numberOf (r .answer) → r .state ≡ s
   pub walk :
       (s : State) (k : ℕ) (r : Walk) → Walked s k r → 0 < numberOf (r .answer)
-      → (r .state ≡ s) × (r .left ≡ 0) × (r .count ≡ 0) × (r .lines ≡ replicate linePlaces noLine)
+      → (r .state ≡ s) × (r .left ≡ 0) × (r .shown ≡ 0) × (r .lines ≡ replicate linePlaces noLine)
   pub ask : (s : State) (r : Asked) → AskedFor s r → 0 < numberOf (r .answer) → r .next ≡ Nothing
-  pub active : (s : State) (r : Activity) → ActiveTold s r → 0 < numberOf (r .answer) → (r .mask ≡ 0) × (r .count ≡ 0)
+  pub active : (s : State) (r : Activity) → ActiveTold s r → 0 < numberOf (r .answer) → (r .mask ≡ 0) × (r .actives ≡ 0)
   pub margin : (s : State) (i : ℕ) (r : Margin) → MarginTold s i r → 0 < numberOf (r .answer) → r .ticks ≡ pos 0
   pub fresh : (t : Table) (r : Outcome) → Freshened t r → 0 < numberOf (r .answer) → r .state ≡ noState
   pub read : (image : List ℕ) (r : Loaded) → TableRead image r → 0 < numberOf (r .answer) → r .table ≡ noTable
@@ -169,7 +169,7 @@ FirstSpareIs ss owner d span = (c : ℕ) × FirstSpare ss (spare d owner c) × (
 
 -- what each use says of the guests and the spares, the portion's deadline and span included
 abbrev pub Uses : List Guest → List Spare → Portion → Type 0
-Uses gs ss (portion (runs i ownBudget) d span) = RunsFirst gs i × (d ≡ deadlineOf (guestAt i gs)) × (span ≡ limited (leftOf (guestAt i gs))) × NoneBy d ss
+Uses gs ss (portion (runs i ownBudget) d span) = RunsFirst gs i × (d ≡ deadlineOf (guestAt i gs)) × (span ≡ limited (currentOf (guestAt i gs))) × NoneBy d ss
 Uses gs ss (portion (runs i (spareOf owner)) d span) = RunsFirst gs i × FirstSpareIs ss owner d span × (d ≤ deadlineOf (guestAt i gs))
 Uses gs ss (portion (burns owner) d span) = NobodyActive gs × FirstSpareIs ss owner d span
 Uses gs ss (portion nothing d span) = NobodyActive gs × (ss ≡ []) × (d ≡ 0) × (span ≡ endless)
@@ -189,15 +189,15 @@ abbrev pub CountsAreTallies : Type 0
 CountsAreTallies =
     (i k : ℕ) (cs : List Call) (s : State)
     → (ownOf (guestAt i (passed k cs s .guests)) ≡ ownOf (guestAt i (model s .guests)) + ownTicks i k cs s)
-    × (lentOf (guestAt i (passed k cs s .guests)) ≡ lentOf (guestAt i (model s .guests)) + lentTicks i k cs s)
+    × (borrowedOf (guestAt i (passed k cs s .guests)) ≡ borrowedOf (guestAt i (model s .guests)) + borrowedTicks i k cs s)
 
 -- ---- demand 3, the choice as an interface
 
 -- who can run: active, with budget left; after step 1 of a tick that is every active guest
 abbrev pub canRun : Guest → Bool
-canRun (guest Q T zero c d own lent) = false
-canRun (guest Q T (suc jobs) zero d own lent) = false
-canRun (guest Q T (suc jobs) (suc c) d own lent) = true
+canRun (guest Q T zero c d own borrowed) = false
+canRun (guest Q T (suc jobs) zero d own borrowed) = false
+canRun (guest Q T (suc jobs) (suc c) d own borrowed) = true
 
 -- whoever runs can run and has the smallest deadline of all that can, whatever the order among equals
 pub record Earliest (gs : List Guest) (i : ℕ) : Type 0 where
@@ -226,7 +226,7 @@ ChoiceIsFair =
 -- demand 3, first half: no capacity above zero has a deadline at or before now, a guest's own or a spare
 abbrev pub NothingOverdue : Model → Type 0
 NothingOverdue m =
-    ((i : ℕ) → 0 < leftOf (guestAt i (m .guests)) → m .now < deadlineOf (guestAt i (m .guests)))
+    ((i : ℕ) → 0 < currentOf (guestAt i (m .guests)) → m .now < deadlineOf (guestAt i (m .guests)))
     × ((k : ℕ) → 0 < capacityOf (spareAt k (m .spares)) → m .now < dueOf (spareAt k (m .spares)))
 
 -- from a fresh state, after any calls, refused ones too: in every state of
@@ -303,7 +303,7 @@ actives (g ∷ gs) = cond (active g) (g ∷ actives gs) (actives gs)
 -- and the answered count is how many of the guests are
 pub record ActivityMeant : Type 0 where
   pub mask : (s : State) (r : Activity) → ActiveTold s r → numberOf (r .answer) ≡ 0 → (i : ℕ) → (bit i (r .mask) ≡ 1) ↔ (active (named s i) ≡ true)
-  pub count : (s : State) (r : Activity) → ActiveTold s r → numberOf (r .answer) ≡ 0 → r .count ≡ length (actives (model s .guests))
+  pub count : (s : State) (r : Activity) → ActiveTold s r → numberOf (r .answer) ≡ 0 → r .actives ≡ length (actives (model s .guests))
 
 -- "Margin of a guest is its deadline less the present tick": the answered margin and the present tick add up to the deadline
 abbrev pub MarginMeant : Type 0

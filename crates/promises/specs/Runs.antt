@@ -78,5 +78,5 @@ abbrev pub ownTicks : ℕ → ℕ → List Call → State → ℕ
 ownTicks i k cs s = counted (tickBy onBudget i) (take k (events cs s)) (model s)
 
 -- and those on spares
-abbrev pub lentTicks : ℕ → ℕ → List Call → State → ℕ
-lentTicks i k cs s = counted (tickBy onSpare i) (take k (events cs s)) (model s)
+abbrev pub borrowedTicks : ℕ → ℕ → List Call → State → ℕ
+borrowedTicks i k cs s = counted (tickBy onSpare i) (take k (events cs s)) (model s)

@@ -88,7 +88,7 @@ sound-held =
       capacity = refl;
       first-owner = refl;
       own = refl;
-      lent = refl;
+      borrowed = refl;
       burned = refl;
       nothing = refl;
       moved = refl;
@@ -280,8 +280,8 @@ outcomes-held =
       ask-burns = record { answer = refl; next = refl };
       ask-rests = record { answer = refl; next = refl };
       ask-refused = record { answer = refl; next = refl };
-      active = record { answer = refl; mask = refl; count = refl };
-      active-refused = record { answer = refl; mask = refl; count = refl };
+      active = record { answer = refl; mask = refl; actives = refl };
+      active-refused = record { answer = refl; mask = refl; actives = refl };
       margin = record { answer = refl; ticks = refl };
       margin-second = record { answer = refl; ticks = refl };
       margin-at = record { answer = refl; ticks = refl };
@@ -335,9 +335,9 @@ walks-held =
       says = refl;
       no-line = refl;
       ticks = refl;
-      walked = record { answer = refl; state = refl; left = refl; count = refl; lines = refl };
-      walked-to-the-end = record { answer = refl; state = refl; left = refl; count = refl; lines = refl };
-      walked-refused = record { answer = refl; state = refl; left = refl; count = refl; lines = refl };
+      walked = record { answer = refl; state = refl; left = refl; shown = refl; lines = refl };
+      walked-to-the-end = record { answer = refl; state = refl; left = refl; shown = refl; lines = refl };
+      walked-refused = record { answer = refl; state = refl; left = refl; shown = refl; lines = refl };
       portions = refl;
       left = refl;
       left-at-the-end = refl;

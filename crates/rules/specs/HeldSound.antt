@@ -13,7 +13,7 @@ use Rattle.rules.specs.HeldTable.{counted, lastPlace, sixteen}
 
 -- a guest's place
 abbrev pub place : ℕ → ℕ → ℕ → ℕ → ℕ → GuestPlace
-place jobs left deadline own lent = record { jobs = jobs; left = left; deadline = deadline; own = own; lent = lent }
+place jobs left deadline own borrowed = record { jobs = jobs; current = left; deadline = deadline; own = own; borrowed = borrowed }
 
 -- a spare's place
 abbrev pub listed : ℕ → ℕ → ℕ → SparePlace
@@ -52,7 +52,7 @@ pub record SoundHeld : Type 0 where
   pub first-owner : sounds (withSpares (spare 16 0 3 ∷ []) ∷ withSpares (spare 16 0 4 ∷ []) ∷ []) ≡ true ∷ false ∷ []
   -- "All tallies together add up to the present tick.": each of the four one too many, and one too few
   pub own : sounds (withFirst (guest 3 12 2 2 30 4 1) ∷ withFirst (guest 3 12 2 2 30 2 1) ∷ []) ≡ false ∷ false ∷ []
-  pub lent : sounds (withSecond (guest 4 8 0 0 20 2 2) ∷ withSecond (guest 4 8 0 0 20 2 0) ∷ []) ≡ false ∷ false ∷ []
+  pub borrowed : sounds (withSecond (guest 4 8 0 0 20 2 2) ∷ withSecond (guest 4 8 0 0 20 2 0) ∷ []) ≡ false ∷ false ∷ []
   pub burned : sounds (withIdle 1 2 ∷ withIdle 2 2 ∷ withIdle 0 2 ∷ []) ≡ true ∷ false ∷ false ∷ []
   pub nothing : sounds (withIdle 1 3 ∷ withIdle 1 1 ∷ withIdle 0 3 ∷ []) ≡ false ∷ false ∷ true ∷ []
   pub moved : sounds (withFirst (guest 3 12 2 2 30 1 3) ∷ withFirst (guest 3 12 2 2 30 4 0) ∷ []) ≡ true ∷ true ∷ []

@@ -5,7 +5,7 @@ use mathlib.Core.List.{List, [], _∷_, map}
 use Prim.Native.Nat.{ℕ}
 use lib.IntN.{pos, negsuc}
 use lib.ListN.{replicate}
-use Rattle.rules.specs.Model.{Guest, guest, Spare, spare, Model, budgetOf, jobsOf, leftOf, deadlineOf, ownOf, lentOf, talliesOf, dueOf, ownerOf, capacityOf, active, idleGuest, guestAt, spareAt, maskOf, activeCount, occupied, tallies}
+use Rattle.rules.specs.Model.{Guest, guest, Spare, spare, Model, budgetOf, jobsOf, currentOf, deadlineOf, ownOf, borrowedOf, talliesOf, dueOf, ownerOf, capacityOf, active, idleGuest, guestAt, spareAt, maskOf, activeCount, occupied, tallies}
 use Rattle.rules.specs.Steps.{wake, join, arrive, before, insertSpare, finish, leave, done, renew, renewed, nobody, picked, ready, sooner, earliest, ownBudget, spareOf, runs, burns, nothing, limited, endless, portion, useOf, spanOf, portionFor, spend, ran, charge, tick, advance, ask, margin}
 use Rattle.rules.specs.Places.{model, freshState, noState}
 use Rattle.rules.specs.Samples.{_by_, table, running, resting, leftovers, sampleOf, sampleModel, sample}
@@ -22,16 +22,16 @@ of jobs c d = guest 3 12 jobs c d 7 8
 
 -- a model of these guests and spares at tick 10
 abbrev pub at10 : List Guest → List Spare → Model
-at10 gs ss = record { frame = 24; now = 10; guests = gs; spares = ss; burned = 4; idle = 5 }
+at10 gs ss = record { frame = 24; now = 10; guests = gs; spares = ss; burned = 4; empty = 5 }
 
 -- the same at another tick, with other tallies of the processor
 abbrev pub then : ℕ → List Guest → List Spare → ℕ → ℕ → Model
-then now gs ss burned idle = record { frame = 24; now = now; guests = gs; spares = ss; burned = burned; idle = idle }
+then now gs ss burned empty = record { frame = 24; now = now; guests = gs; spares = ss; burned = burned; empty = empty }
 
 -- what a guest and a spare are made of
 pub record ModelHeld : Type 0 where
   pub guest-numbers :
-      (let g = guest 1 2 3 4 5 6 7 in budgetOf g ∷ jobsOf g ∷ leftOf g ∷ deadlineOf g ∷ ownOf g ∷ lentOf g ∷ talliesOf g ∷ [])
+      (let g = guest 1 2 3 4 5 6 7 in budgetOf g ∷ jobsOf g ∷ currentOf g ∷ deadlineOf g ∷ ownOf g ∷ borrowedOf g ∷ talliesOf g ∷ [])
       ≡ 1 ∷ 3 ∷ 4 ∷ 5 ∷ 6 ∷ 7 ∷ 13 ∷ []
   pub spare-numbers : (let x = spare 1 2 3 in dueOf x ∷ ownerOf x ∷ capacityOf x ∷ []) ≡ 1 ∷ 2 ∷ 3 ∷ []
   -- "waiting jobs 0 to 255 (above 0 is active, 0 is idle)"
@@ -174,10 +174,10 @@ pub record PlacesHeld : Type 0 where
         table = record { frame = 24; count = 2; entries = 3 by 12 ∷ 4 by 8 ∷ replicate 14 (0 by 0) };
         now = 10;
         guests = place 2 2 30 3 1 ∷ place 0 0 20 2 1 ∷ replicate 14 (place 0 0 0 0 0);
-        count = 3;
+        listed = 3;
         spares = listed 16 1 4 ∷ listed 20 1 1 ∷ listed 24 0 3 ∷ replicate 61 (listed 0 0 0);
         burned = 1;
-        idle = 2;
+        empty = 2;
       }
   pub back : model sample ≡ sampleModel
   -- only the places in use count
@@ -187,10 +187,10 @@ pub record PlacesHeld : Type 0 where
         table = record { frame = 24; count = 1; entries = 3 by 12 ∷ 4 by 8 ∷ replicate 14 (0 by 0) };
         now = 10;
         guests = place 2 2 30 3 1 ∷ place 0 0 20 2 1 ∷ replicate 14 (place 0 0 0 0 0);
-        count = 2;
+        listed = 2;
         spares = listed 16 1 4 ∷ listed 20 1 1 ∷ listed 24 0 3 ∷ replicate 61 (listed 0 0 0);
         burned = 1;
-        idle = 2;
+        empty = 2;
       })
       ≡ sampleOf (running ∷ []) (spare 16 1 4 ∷ spare 20 1 1 ∷ [])
   -- "it has tick 0 and every other changing number 0"
@@ -200,10 +200,10 @@ pub record PlacesHeld : Type 0 where
         table = counted 24 1 (3 by 12 ∷ []);
         now = 0;
         guests = replicate 16 (place 0 0 0 0 0);
-        count = 0;
+        listed = 0;
         spares = replicate 64 (listed 0 0 0);
         burned = 0;
-        idle = 0;
+        empty = 0;
       }
   -- "a refused .. fresh state is all zeros"
   pub zeros :
@@ -212,8 +212,8 @@ pub record PlacesHeld : Type 0 where
         table = record { frame = 0; count = 0; entries = sixteen (0 by 0) };
         now = 0;
         guests = replicate 16 (place 0 0 0 0 0);
-        count = 0;
+        listed = 0;
         spares = replicate 64 (listed 0 0 0);
         burned = 0;
-        idle = 0;
+        empty = 0;
       }

@@ -55,7 +55,7 @@ pub record WalksHeld : Type 0 where
         answer = Went;
         state = packed (then 17 (guest 3 12 2 2 30 3 8 ∷ resting ∷ []) (spare 24 0 1 ∷ []) 1 2);
         left = 0;
-        count = 3;
+        shown = 3;
         lines = lineIn 10 14 (Run 0 (SpareOf 1)) ∷ lineIn 14 15 (Run 0 (SpareOf 1)) ∷ lineIn 15 17 (Run 0 (SpareOf 0)) ∷ replicate 61 (lineIn 0 0 Nothing);
       })
   pub walked-to-the-end :
@@ -64,7 +64,7 @@ pub record WalksHeld : Type 0 where
         answer = Went;
         state = lone 1099511627776 0 0 0;
         left = 0;
-        count = 1;
+        shown = 1;
         lines = lineIn 1099511627771 1099511627776 Nothing ∷ replicate 63 (lineIn 0 0 Nothing);
       })
   pub walked-refused :
@@ -73,7 +73,7 @@ pub record WalksHeld : Type 0 where
         answer = Refused EndOfTime;
         state = lone 1099511627776 0 0 0;
         left = 0;
-        count = 0;
+        shown = 0;
         lines = replicate 64 (lineIn 0 0 Nothing);
       })
   -- a walk answers 64 portions: a guest (1, 1) has one in each tick

@@ -17,7 +17,7 @@ use Rattle.rules.specs.Model.{Guest, guest, Spare, spare, Model}
 
 -- a guest is its entry in the table and its changing numbers
 abbrev pub guestOf : Entry → GuestPlace → Guest
-guestOf e g = guest (e .budget) (e .period) (g .jobs) (g .left) (g .deadline) (g .own) (g .lent)
+guestOf e g = guest (e .budget) (e .period) (g .jobs) (g .current) (g .deadline) (g .own) (g .borrowed)
 
 -- a spare as it is listed
 abbrev pub spareOf : SparePlace → Spare
@@ -31,20 +31,20 @@ model s =
       frame = s .table .frame;
       now = s .now;
       guests = zipWith guestOf (entriesOf (s .table)) (take (s .table .count) (s .guests));
-      spares = map spareOf (take (s .count) (s .spares));
+      spares = map spareOf (take (s .listed) (s .spares));
       burned = s .burned;
-      idle = s .idle;
+      empty = s .empty;
     }
 
 -- ---- from the model to the places
 
 -- the table's part of a guest
 abbrev pub entryOf : Guest → Entry
-entryOf (guest Q T jobs c d own lent) = record { budget = Q; period = T }
+entryOf (guest Q T jobs c d own borrowed) = record { budget = Q; period = T }
 
 -- the changing part of a guest
 abbrev pub guestPlace : Guest → GuestPlace
-guestPlace (guest Q T jobs c d own lent) = record { jobs = jobs; left = c; deadline = d; own = own; lent = lent }
+guestPlace (guest Q T jobs c d own borrowed) = record { jobs = jobs; current = c; deadline = d; own = own; borrowed = borrowed }
 
 -- a spare in its place
 abbrev pub sparePlace : Spare → SparePlace
@@ -52,7 +52,7 @@ sparePlace (spare d owner c) = record { deadline = d; owner = owner; capacity = 
 
 -- an unused guest place
 abbrev pub noGuestPlace : GuestPlace
-noGuestPlace = record { jobs = 0; left = 0; deadline = 0; own = 0; lent = 0 }
+noGuestPlace = record { jobs = 0; current = 0; deadline = 0; own = 0; borrowed = 0 }
 
 -- an unused spare place
 abbrev pub noSparePlace : SparePlace
@@ -75,17 +75,17 @@ packed m =
       table = tableOf m;
       now = m .now;
       guests = padded guestPlaces noGuestPlace (map guestPlace (m .guests));
-      count = length (m .spares);
+      listed = length (m .spares);
       spares = padded sparePlaces noSparePlace (map sparePlace (m .spares));
       burned = m .burned;
-      idle = m .idle;
+      empty = m .empty;
     }
 
 -- ---- the places that are not used
 
 -- all numbers of a guest's place, tallies too
 abbrev pub guestPlaceIsZero : GuestPlace → Bool
-guestPlaceIsZero g = eqb (g .jobs) 0 && eqb (g .left) 0 && eqb (g .deadline) 0 && eqb (g .own) 0 && eqb (g .lent) 0
+guestPlaceIsZero g = eqb (g .jobs) 0 && eqb (g .current) 0 && eqb (g .deadline) 0 && eqb (g .own) 0 && eqb (g .borrowed) 0
 
 -- all numbers of a spare's place
 abbrev pub sparePlaceIsZero : SparePlace → Bool
@@ -94,7 +94,7 @@ sparePlaceIsZero x = eqb (x .deadline) 0 && eqb (x .owner) 0 && eqb (x .capacity
 -- "unused guest places and spare places are all zero"; those of the table are the table's own (13)
 abbrev pub unusedZero : State → Bool
 unusedZero s =
-    unused guestPlaceIsZero guestPlaces (s .table .count) (s .guests) && unused sparePlaceIsZero sparePlaces (s .count) (s .spares)
+    unused guestPlaceIsZero guestPlaces (s .table .count) (s .guests) && unused sparePlaceIsZero sparePlaces (s .listed) (s .spares)
 
 -- ---- a fresh state
 
@@ -105,10 +105,10 @@ freshState t =
       table = t;
       now = 0;
       guests = replicate guestPlaces noGuestPlace;
-      count = 0;
+      listed = 0;
       spares = replicate sparePlaces noSparePlace;
       burned = 0;
-      idle = 0;
+      empty = 0;
     }
 
 -- "a refused .. fresh state is all zeros"

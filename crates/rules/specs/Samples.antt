@@ -48,7 +48,7 @@ leftovers = spare 16 1 4 ∷ spare 20 1 1 ∷ spare 24 0 3 ∷ []
 
 -- frame 24, tick 10
 abbrev pub sampleOf : List Guest → List Spare → Model
-sampleOf gs ss = record { frame = 24; now = 10; guests = gs; spares = ss; burned = 1; idle = 2 }
+sampleOf gs ss = record { frame = 24; now = 10; guests = gs; spares = ss; burned = 1; empty = 2 }
 
 -- the sample, as the rules see it
 abbrev pub sampleModel : Model
@@ -77,14 +77,14 @@ withSpares ss = packed (sampleOf (running ∷ resting ∷ []) ss)
 -- with other tallies of the processor
 unfoldable pub withIdle : ℕ → ℕ → State
 unfolding packed
-withIdle burned idle =
-    packed (record { frame = 24; now = 10; guests = running ∷ resting ∷ []; spares = leftovers; burned = burned; idle = idle })
+withIdle burned empty =
+    packed (record { frame = 24; now = 10; guests = running ∷ resting ∷ []; spares = leftovers; burned = burned; empty = empty })
 
 -- ---- one place of the sample changed
 
 -- the state with other places and another count of spares
 abbrev pub placed : State → Table → List GuestPlace → ℕ → List SparePlace → State
-placed s t gs n xs = record { table = t; now = s .now; guests = gs; count = n; spares = xs; burned = s .burned; idle = s .idle }
+placed s t gs n xs = record { table = t; now = s .now; guests = gs; listed = n; spares = xs; burned = s .burned; empty = s .empty }
 
 -- guest place 15, which nobody uses
 unfoldable pub withLastGuest : GuestPlace → State
@@ -111,7 +111,7 @@ withTable t = placed sample t (sample .guests) 3 (sample .spares)
 -- one guest (1, 1) with its jobs, c and d, at a tick that was all idle
 unfoldable pub lone : ℕ → ℕ → ℕ → ℕ → State
 unfolding packed
-lone now jobs c d = packed (record { frame = 1; now = now; guests = guest 1 1 jobs c d 0 0 ∷ []; spares = []; burned = 0; idle = now })
+lone now jobs c d = packed (record { frame = 1; now = now; guests = guest 1 1 jobs c d 0 0 ∷ []; spares = []; burned = 0; empty = now })
 
 -- so many spares of guest 0 with a capacity of 1, and deadlines from d on
 unfoldable pub row : ℕ → ℕ → List Spare
@@ -121,7 +121,7 @@ row (suc n) d = spare d 0 1 ∷ row n (suc d)
 -- one guest (1, 1) with its jobs, c and d at tick 0, and n spares with deadlines 1 to n
 unfoldable pub crowded : ℕ → ℕ → ℕ → ℕ → State
 unfolding packed row
-crowded n jobs c d = packed (record { frame = 1; now = 0; guests = guest 1 1 jobs c d 0 0 ∷ []; spares = row n 1; burned = 0; idle = 0 })
+crowded n jobs c d = packed (record { frame = 1; now = 0; guests = guest 1 1 jobs c d 0 0 ∷ []; spares = row n 1; burned = 0; empty = 0 })
 
 -- the same with 64 spares, and one more counted
 unfoldable pub overcounted : State
@@ -131,4 +131,4 @@ overcounted = let s = crowded 64 0 0 64 in placed s (s .table) (s .guests) 65 (s
 -- one idle guest (1, 1) with this deadline at tick 0, and a spare that it left with the same
 unfoldable pub leftAt : ℕ → State
 unfolding packed
-leftAt d = packed (record { frame = 1; now = 0; guests = guest 1 1 0 0 d 0 0 ∷ []; spares = spare d 0 1 ∷ []; burned = 0; idle = 0 })
+leftAt d = packed (record { frame = 1; now = 0; guests = guest 1 1 0 0 d 0 0 ∷ []; spares = spare d 0 1 ∷ []; burned = 0; empty = 0 })

@@ -7,13 +7,13 @@ use Rattle.laws.specs.Lists.{every}
 use Rattle.rules.specs.declared.State.{State}
 use Rattle.rules.specs.Limits.{sparePlaces, mostJobs, lastTick, deadlineBound}
 use Rattle.rules.specs.Table.{goodTable}
-use Rattle.rules.specs.Model.{Guest, Spare, Model, budgetOf, jobsOf, leftOf, deadlineOf, dueOf, ownerOf, capacityOf, active, guestAt, occupied, tallies}
+use Rattle.rules.specs.Model.{Guest, Spare, Model, budgetOf, jobsOf, currentOf, deadlineOf, dueOf, ownerOf, capacityOf, active, guestAt, occupied, tallies}
 use Rattle.rules.specs.Steps.{before}
 use Rattle.rules.specs.Places.{model, unusedZero}
 
 -- "waiting jobs 0 to 255 .., a current budget c from 0 to Q .. An idle guest has c = 0."
 abbrev pub guestInRange : Guest → Bool
-guestInRange g = leb (jobsOf g) mostJobs && leb (leftOf g) (budgetOf g) && (active g || eqb (leftOf g) 0)
+guestInRange g = leb (jobsOf g) mostJobs && leb (currentOf g) (budgetOf g) && (active g || eqb (currentOf g) 0)
 
 -- "Each has an owner (a guest number below n), a capacity from 1 to the owner's Q"
 abbrev pub spareInRange : List Guest → Spare → Bool
@@ -47,4 +47,4 @@ inRange m =
 
 -- "A state is sound if all of the above holds and .."
 unfoldable pub sound : State → Bool
-sound s = goodTable (s .table) && leb (s .count) sparePlaces && inRange (model s) && unusedZero s
+sound s = goodTable (s .table) && leb (s .listed) sparePlaces && inRange (model s) && unusedZero s

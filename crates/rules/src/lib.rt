@@ -38,10 +38,10 @@ pub struct Table {
 // ticks run on its own budget, ticks run on a spare.
 pub struct Guest {
     pub jobs: u64,
-    pub left: u64,
+    pub current: u64,
     pub deadline: u64,
     pub own: u64,
-    pub lent: u64,
+    pub borrowed: u64,
 }
 
 pub struct Spare {
@@ -50,16 +50,16 @@ pub struct Spare {
     pub capacity: u64,
 }
 
-// The whole state. `count` spares are in use; the processor's two tallies are idle ticks that burned
+// The whole state. `listed` spares are in use; the processor's two tallies are idle ticks that burned
 // a spare and idle ticks with nothing to burn.
 pub struct State {
     pub table: Table,
     pub now: u64,
     pub guests: [Guest; GUEST_PLACES],
-    pub count: usize,
+    pub listed: usize,
     pub spares: [Spare; SPARE_PLACES],
     pub burned: u64,
-    pub idle: u64,
+    pub empty: u64,
 }
 
 // The numbers of refusal, 1 to 16, in their order.
@@ -126,21 +126,21 @@ pub struct Line {
     pub used: Use,
 }
 
-// What a walk gives: the lines of its first portions, `count` of them, the state after them, and the ticks that are
+// What a walk gives: the lines of its first portions, `shown` of them, the state after them, and the ticks that are
 // left to walk.
 pub struct Walk {
     pub answer: Answer,
     pub state: State,
     pub left: u64,
-    pub count: usize,
+    pub shown: usize,
     pub lines: [Line; LINE_PLACES],
 }
 
-// Bit i of the mask stands for guest i; `count` is the number of its ones.
+// Bit i of the mask stands for guest i; `actives` is the number of its ones.
 pub struct Activity {
     pub answer: Answer,
     pub mask: u32,
-    pub count: u32,
+    pub actives: u32,
 }
 
 pub struct Margin {

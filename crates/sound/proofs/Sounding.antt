@@ -87,7 +87,7 @@ together ha hb hc hd he hf hg = rw (ha, hb, hc, hd, he, hf, hg)
 
 -- ---- the test
 
-module _ (s : State) (good : goodTable (s .table) ≡ true) (few : s .count ≤ sparePlaces) (early : s .now ≤ lastTick) where
+module _ (s : State) (good : goodTable (s .table) ≡ true) (few : s .listed ≤ sparePlaces) (early : s .now ≤ lastTick) where
   abbrev n : ℕ
   n = s .table .count
 
@@ -95,16 +95,16 @@ module _ (s : State) (good : goodTable (s .table) ≡ true) (few : s .count ≤ 
   gs = guestsOf (s .table .entries) (s .guests) n
 
   abbrev xs : List Spare
-  xs = map spareOf (take (s .count) (s .spares))
+  xs = map spareOf (take (s .listed) (s .spares))
 
   -- what the code asks of the places in use, and of the others
   abbrev pub Used : Bool
   Used =
       every (guestHolds (s .now)) gs
-      && every (sparePlaceHolds (s .now) gs) (take (s .count) (s .spares))
-      && eqb (total placeTallies (take n (s .guests)) + s .burned + s .idle) (s .now)
+      && every (sparePlaceHolds (s .now) gs) (take (s .listed) (s .spares))
+      && eqb (total placeTallies (take n (s .guests)) + s .burned + s .empty) (s .now)
       && rising xs
-      && leb (s .count + activeCount (inUse n (s .guests))) sparePlaces
+      && leb (s .listed + activeCount (inUse n (s .guests))) sparePlaces
 
   module _ (he : length (s .table .entries) ≡ guestPlaces) (hg : length (s .guests) ≡ guestPlaces) (hs : length (s .spares) ≡ sparePlaces) (hn : n ≤ guestPlaces) where
     same-length : length (take n (s .table .entries)) ≡ length (take n (s .guests))
@@ -114,9 +114,9 @@ module _ (s : State) (good : goodTable (s .table) ≡ true) (few : s .count ≤ 
     unfolding guestsOf
     tally = tallies-shown (take n (s .table .entries)) (take n (s .guests)) same-length
 
-    room : s .count + activeCount (inUse n (s .guests)) ≡ length xs + activeCount gs
+    room : s .listed + activeCount (inUse n (s .guests)) ≡ length xs + activeCount gs
     unfolding guestsOf
-    room = ap₂ (λ (a b : ℕ). a + b) (sym (length-map (take (s .count) (s .spares)) spareOf ∙ length-take-le (s .count) (s .spares) (omega arith))) (count-shown (take n (s .table .entries)) (take n (s .guests)) same-length)
+    room = ap₂ (λ (a b : ℕ). a + b) (sym (length-map (take (s .listed) (s .spares)) spareOf ∙ length-take-le (s .listed) (s .spares) (omega arith))) (count-shown (take n (s .table .entries)) (take n (s .guests)) same-length)
 
     used : Used ≡ inRange (model s)
     unfolding inRange model guestsOf zipWith
@@ -127,19 +127,19 @@ module _ (s : State) (good : goodTable (s .table) ≡ true) (few : s .count ≤ 
         let S = every (spareInRange gs) xs in
         let D = every {A = Spare} (λ x. leb (dueOf x) (deadlineBound (s .now))) xs in
         let B = every (behindOwner gs) xs in
-        let T : ℕ → Bool = λ t. eqb (t + s .burned + s .idle) (s .now) in
+        let T : ℕ → Bool = λ t. eqb (t + s .burned + s .empty) (s .now) in
         let O : ℕ → Bool = λ o. leb o sparePlaces in
-        ap₂ (λ (a b : Bool). a && b && T (total placeTallies (take n (s .guests))) && rising xs && O (s .count + activeCount (inUse n (s .guests)))) (every-both guestInRange early-all gs) (spares-split (s .now) gs (take (s .count) (s .spares)))
+        ap₂ (λ (a b : Bool). a && b && T (total placeTallies (take n (s .guests))) && rising xs && O (s .listed + activeCount (inUse n (s .guests)))) (every-both guestInRange early-all gs) (spares-split (s .now) gs (take (s .listed) (s .spares)))
         ∙ ap₂ (λ (t o : ℕ). G && E && (S && D && B) && T t && rising xs && O o) tally room
         ∙ in-order G E S D B (T (total talliesOf gs)) (rising xs) (O (length xs + activeCount gs))
         ∙ ap (λ (t : Bool). t && G && S && T (total talliesOf gs) && rising xs && O (length xs + activeCount gs) && E && D && B) (sym (le-leb (s .now) lastTick early))
 
-    pub sound-asked : Used && every guestPlaceIsZero (drop n (s .guests)) && every sparePlaceIsZero (drop (s .count) (s .spares)) ≡ sound s
+    pub sound-asked : Used && every guestPlaceIsZero (drop n (s .guests)) && every sparePlaceIsZero (drop (s .listed) (s .spares)) ≡ sound s
     unfolding sound
     sound-asked =
         and-assoc Used _ _
-        ∙ ap₂ (λ (a b : Bool). a && b) (used ∙ ap (λ (t : Bool). t && inRange (model s)) (sym (and-intro good (le-leb (s .count) sparePlaces few))))
-        (ap₂ (λ (a b : Bool). a && every guestPlaceIsZero (drop n (s .guests)) && (b && every sparePlaceIsZero (drop (s .count) (s .spares)))) (sym (eq-eqb _ _ hg)) (sym (eq-eqb _ _ hs)))
+        ∙ ap₂ (λ (a b : Bool). a && b) (used ∙ ap (λ (t : Bool). t && inRange (model s)) (sym (and-intro good (le-leb (s .listed) sparePlaces few))))
+        (ap₂ (λ (a b : Bool). a && every guestPlaceIsZero (drop n (s .guests)) && (b && every sparePlaceIsZero (drop (s .listed) (s .spares)))) (sym (eq-eqb _ _ hg)) (sym (eq-eqb _ _ hs)))
 
 -- ---- states that are not sound
 
@@ -157,7 +157,7 @@ module _ (s : State) where
   pub bad-table : goodTable (s .table) ≡ false → false ≡ sound s
   bad-table f = by-test (λ t. false ≡ t) (sound s) (λ h. never (points s h .table) f) (λ _. refl)
 
-  pub too-many : sparePlaces < s .count → false ≡ sound s
+  pub too-many : sparePlaces < s .listed → false ≡ sound s
   too-many f = by-test (λ t. false ≡ t) (sound s) (λ h. absurd (omega (arith, f, points s h .few))) (λ _. refl)
 
   pub too-late : lastTick < s .now → false ≡ sound s

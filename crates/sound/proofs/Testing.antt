@@ -25,12 +25,12 @@ use Rattle.laws.proofs.Elements.{every-at}
 use borrow.Author.Tests.{leb-true, ltb-true, eqb-true, le-leb}
 
 -- a guest's test as the code asks it: active is that some job waits
-pub guest-asked : (e : Entry) (g : GuestPlace) (now : ℕ) → leb (g .jobs) mostJobs && leb (g .left) (e .budget) && (not (eqb (g .jobs) 0) || eqb (g .left) 0) && leb (g .deadline) (deadlineBound now) ≡ guestHolds now (guestOf e g)
-guest-asked e g now = go (g .jobs) (g .left) (g .deadline) (g .own) (g .lent)
+pub guest-asked : (e : Entry) (g : GuestPlace) (now : ℕ) → leb (g .jobs) mostJobs && leb (g .current) (e .budget) && (not (eqb (g .jobs) 0) || eqb (g .current) 0) && leb (g .deadline) (deadlineBound now) ≡ guestHolds now (guestOf e g)
+guest-asked e g now = go (g .jobs) (g .current) (g .deadline) (g .own) (g .borrowed)
   where
-    go : (j c d own lent : ℕ) → leb j mostJobs && leb c (e .budget) && (not (eqb j 0) || eqb c 0) && leb d (deadlineBound now) ≡ guestHolds now (guestOf e (record { jobs = j; left = c; deadline = d; own = own; lent = lent }))
-    go zero c d own lent = refl
-    go (suc j) c d own lent = rw (eqb·suc-zero j)
+    go : (j c d own borrowed : ℕ) → leb j mostJobs && leb c (e .budget) && (not (eqb j 0) || eqb c 0) && leb d (deadlineBound now) ≡ guestHolds now (guestOf e (record { jobs = j; current = c; deadline = d; own = own; borrowed = borrowed }))
+    go zero c d own borrowed = refl
+    go (suc j) c d own borrowed = rw (eqb·suc-zero j)
 
 module _ (entries : List Entry) (guests : List GuestPlace) (count : ℕ) (he : count ≤ length entries) (hg : count ≤ length guests) where
   pub guest-at : (i : ℕ) → i < count → guestOf (getD entries i noEntry) (getD guests i noGuestPlace) ≡ getD (guestsOf entries guests count) i noGuest
@@ -51,29 +51,29 @@ module _ (guests : List GuestPlace) (count : ℕ) (h : every tallySmall (take co
       rw (getD-take count guests i noGuestPlace l) at (every-at tallySmall (take count guests) h noGuestPlace i inside)
 
   pub small-own : getD guests i noGuestPlace .own ≤ lastTick
-  small-own = leb-true _ _ (and-both (leb (getD guests i noGuestPlace .own) lastTick) (leb (getD guests i noGuestPlace .lent) lastTick) small .0)
+  small-own = leb-true _ _ (and-both (leb (getD guests i noGuestPlace .own) lastTick) (leb (getD guests i noGuestPlace .borrowed) lastTick) small .0)
 
-  pub small-lent : getD guests i noGuestPlace .lent ≤ lastTick
-  small-lent = leb-true _ _ (and-both (leb (getD guests i noGuestPlace .own) lastTick) (leb (getD guests i noGuestPlace .lent) lastTick) small .1)
+  pub small-borrowed : getD guests i noGuestPlace .borrowed ≤ lastTick
+  small-borrowed = leb-true _ _ (and-both (leb (getD guests i noGuestPlace .own) lastTick) (leb (getD guests i noGuestPlace .borrowed) lastTick) small .1)
 
 -- guests whose tallies add up to a tick all have small ones
 small-total : (gs : List GuestPlace) → total placeTallies gs ≤ lastTick → every tallySmall gs ≡ true
 small-total [] h = refl
 small-total (g ∷ gs) h =
-    and-intro (and-intro (le-leb (g .own) lastTick (omega (arith, h))) (le-leb (g .lent) lastTick (omega (arith, h)))) (small-total gs (omega (arith, h)))
+    and-intro (and-intro (le-leb (g .own) lastTick (omega (arith, h))) (le-leb (g .borrowed) lastTick (omega (arith, h)))) (small-total gs (omega (arith, h)))
 
 -- so where one is not small they add up to none
-pub too-large : (gs : List GuestPlace) (burned idle now : ℕ) → now ≤ lastTick → every tallySmall gs ≡ false → false ≡ eqb (total placeTallies gs + burned + idle) now
-too-large gs burned idle now l h =
-    by-test (λ t. false ≡ t) (eqb (total placeTallies gs + burned + idle) now)
-    (λ e. never (small-total gs (omega (arith, l, eqb-true (total placeTallies gs + burned + idle) now e))) h)
+pub too-large : (gs : List GuestPlace) (burned empty now : ℕ) → now ≤ lastTick → every tallySmall gs ≡ false → false ≡ eqb (total placeTallies gs + burned + empty) now
+too-large gs burned empty now l h =
+    by-test (λ t. false ≡ t) (eqb (total placeTallies gs + burned + empty) now)
+    (λ e. never (small-total gs (omega (arith, l, eqb-true (total placeTallies gs + burned + empty) now e))) h)
     (λ _. refl)
 
 -- nor where a tally of the processor is past the end of time
-pub past-end : (gs : List GuestPlace) (burned idle now : ℕ) → now ≤ lastTick → lastTick < burned + idle → false ≡ eqb (total placeTallies gs + burned + idle) now
-past-end gs burned idle now l h =
-    by-test (λ t. false ≡ t) (eqb (total placeTallies gs + burned + idle) now)
-    (λ e. absurd (omega (arith, l, h, eqb-true (total placeTallies gs + burned + idle) now e)))
+pub past-end : (gs : List GuestPlace) (burned empty now : ℕ) → now ≤ lastTick → lastTick < burned + empty → false ≡ eqb (total placeTallies gs + burned + empty) now
+past-end gs burned empty now l h =
+    by-test (λ t. false ≡ t) (eqb (total placeTallies gs + burned + empty) now)
+    (λ e. absurd (omega (arith, l, h, eqb-true (total placeTallies gs + burned + empty) now e)))
     (λ _. refl)
 
 -- a spare's test as the code asks it, of its owner
@@ -83,7 +83,7 @@ spare-asked e g now x = go (g .jobs)
     rest : Bool
     rest = leb 1 (x .capacity) && leb (x .capacity) (e .budget) && leb (x .deadline) (deadlineBound now) && leb (x .deadline) (g .deadline)
 
-    go : (j : ℕ) → rest && (eqb j 0 || ltb (x .deadline) (g .deadline)) ≡ spareFits now (guestOf e (record { jobs = j; left = g .left; deadline = g .deadline; own = g .own; lent = g .lent })) (spareOf x)
+    go : (j : ℕ) → rest && (eqb j 0 || ltb (x .deadline) (g .deadline)) ≡ spareFits now (guestOf e (record { jobs = j; current = g .current; deadline = g .deadline; own = g .own; borrowed = g .borrowed })) (spareOf x)
     go zero = refl
     go (suc j) = rw (eqb·suc-zero j)
 

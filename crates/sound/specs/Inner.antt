@@ -36,8 +36,8 @@ sparePlaceHolds now gs x = ltb (x .owner) (length gs) && spareFits now (guestAt 
 
 -- neither tally is past the end of time
 abbrev pub tallySmall : GuestPlace → Bool
-tallySmall g = leb (g .own) lastTick && leb (g .lent) lastTick
+tallySmall g = leb (g .own) lastTick && leb (g .borrowed) lastTick
 
 -- both tallies of a guest in its place
 abbrev pub placeTallies : GuestPlace → ℕ
-placeTallies g = g .own + g .lent
+placeTallies g = g .own + g .borrowed

@@ -32,9 +32,9 @@ fn guest_holds(e: Entry, g: Guest, now: u64) -> bool
     ensures { λ r. ⌜ r ≡ guestHolds now (guestOf e g) ⌝ }
 {
     let a = g.jobs <= MOST_JOBS;
-    let b = g.left <= e.budget;
+    let b = g.current <= e.budget;
     let c = g.jobs != 0;
-    let d = g.left == 0;
+    let d = g.current == 0;
     let f = g.deadline <= DEADLINE_CAP + now * DEADLINE_GROWTH;
     a & b & (c | d) & f
 }
@@ -64,10 +64,10 @@ fn guest_is_zero(g: Guest) -> bool
     ensures { λ r. ⌜ r ≡ guestPlaceIsZero g ⌝ }
 {
     let a = g.jobs == 0;
-    let b = g.left == 0;
+    let b = g.current == 0;
     let c = g.deadline == 0;
     let d = g.own == 0;
-    let e = g.lent == 0;
+    let e = g.borrowed == 0;
     a & b & c & d & e
 }
 
@@ -130,7 +130,7 @@ fn tally_small(g: Guest) -> bool
     ensures { λ r. ⌜ r ≡ tallySmall g ⌝ }
 {
     let a = g.own <= LAST_TICK;
-    let b = g.lent <= LAST_TICK;
+    let b = g.borrowed <= LAST_TICK;
     a & b
 }
 
@@ -143,7 +143,7 @@ fn tallies_of(guests: [Guest; GUEST_PLACES], count: usize) -> u64
     let mut i: usize = 0;
     while i < count {
         let g = guests[i];
-        sum = sum + (g.own + g.lent);
+        sum = sum + (g.own + g.borrowed);
         i = i + 1;
     }
     sum
@@ -154,23 +154,23 @@ fn tallies_add_up(
     guests: [Guest; GUEST_PLACES],
     count: usize,
     burned: u64,
-    idle: u64,
+    empty: u64,
     now: u64,
 ) -> bool
     requires { ⌜ (count ≤ guestPlaces) × (now ≤ lastTick) ⌝ }
-    ensures { λ r. ⌜ r ≡ eqb (total placeTallies (take count guests) + burned + idle) now ⌝ }
+    ensures { λ r. ⌜ r ≡ eqb (total placeTallies (take count guests) + burned + empty) now ⌝ }
 {
     if burned > LAST_TICK {
         return false;
     }
-    if idle > LAST_TICK {
+    if empty > LAST_TICK {
         return false;
     }
     if !tallies_small(guests, count) {
         return false;
     }
     let sum = tallies_of(guests, count);
-    sum + burned + idle == now
+    sum + burned + empty == now
 }
 
 // The place of an owner, or any place where there is no such guest.
@@ -254,7 +254,7 @@ fn has_room(guests: [Guest; GUEST_PLACES], places: usize, count: usize) -> bool
 
 // What is left to test once no count passes its places.
 fn all_holds(s: State) -> bool
-    requires { ⌜ (goodTable (s .table) ≡ true) × (s .table .count ≤ guestPlaces) × (s .count ≤ sparePlaces) × (s .now ≤ lastTick) ⌝ }
+    requires { ⌜ (goodTable (s .table) ≡ true) × (s .table .count ≤ guestPlaces) × (s .listed ≤ sparePlaces) × (s .now ≤ lastTick) ⌝ }
     ensures { λ r. ⌜ r ≡ sound s ⌝ }
 {
     let t = s.table;
@@ -263,12 +263,12 @@ fn all_holds(s: State) -> bool
     let guests = s.guests;
     let spares = s.spares;
     let a = guests_hold(entries, guests, places, s.now);
-    let b = spares_hold(t, guests, s.now, spares, s.count);
-    let c = tallies_add_up(guests, places, s.burned, s.idle, s.now);
-    let d = spares_rise(spares, s.count);
-    let e = has_room(guests, places, s.count);
+    let b = spares_hold(t, guests, s.now, spares, s.listed);
+    let c = tallies_add_up(guests, places, s.burned, s.empty, s.now);
+    let d = spares_rise(spares, s.listed);
+    let e = has_room(guests, places, s.listed);
     let f = other_guests_zero(guests, places);
-    let g = other_spares_zero(spares, s.count);
+    let g = other_spares_zero(spares, s.listed);
     a & b & c & d & e & f & g
 }
 
@@ -280,7 +280,7 @@ pub fn is_sound(s: State) -> bool
     let Answer::Went = answer else {
         return false;
     };
-    if s.count > SPARE_PLACES {
+    if s.listed > SPARE_PLACES {
         return false;
     }
     if s.now > LAST_TICK {

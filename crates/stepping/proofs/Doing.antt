@@ -161,17 +161,17 @@ few-lines s k = by-index (λ n. length (told n (lines linePlaces k) [] s) ≤ li
 
 module _ {s : State} {k : ℕ} {w : Walk} (d : Walked s k w) where
   -- there are no more portions than places
-  pub walk-few : w .count ≤ linePlaces
-  walk-few = omega (arith, d .count, few-lines s k)
+  pub walk-few : w .shown ≤ linePlaces
+  walk-few = omega (arith, d .shown, few-lines s k)
 
   -- those that are in use are the walk's
-  pub walk-used : take (w .count) (w .lines) ≡ map linePlace (walkLines k s)
+  pub walk-used : take (w .shown) (w .lines) ≡ map linePlace (walkLines k s)
   walk-used =
-      ap (take (w .count)) (d .lines)
-      ∙ take-padded linePlaces noLine (w .count) (map linePlace (walkLines k s)) (length-map (walkLines k s) linePlace ∙ sym (d .count))
+      ap (take (w .shown)) (d .lines)
+      ∙ take-padded linePlaces noLine (w .shown) (map linePlace (walkLines k s)) (length-map (walkLines k s) linePlace ∙ sym (d .shown))
 
   module _ (end : ℕ) (h : Held) (same : h .state ≡ s) {held : Held} (f : held ≡ goingOn end (h .table) (w .state) (w .left)) where
-    pub walk-went : w .answer ≡ Went → walks k end h ≡ step (portionsBytes (take (w .count) (w .lines))) held
+    pub walk-went : w .answer ≡ Went → walks k end h ≡ step (portionsBytes (take (w .shown) (w .lines))) held
     walk-went e =
         let none : first (advanceRows s k) ≡ 0 = sym (d .answer) ∙ ap numberOf e in
         rw (f, same, none, walk-used, d .state, d .left) refl

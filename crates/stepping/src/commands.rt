@@ -63,7 +63,7 @@ fn walked(k: u64, end: usize, h: Held, buffer: &mut [u8], filled: usize) -> Step
         return Stepped { held, filled };
     };
     let lines = walk.lines;
-    let filled = put_portions(lines, walk.count, buffer, filled);
+    let filled = put_portions(lines, walk.shown, buffer, filled);
     Stepped { held, filled }
 }
 

@@ -69,7 +69,7 @@ module _ (s : State) (k : ℕ) where
       pub advance-refused : Advanced s k (record { answer = a; state = s })
       advance-refused = record { answer = e; state = told-nothing _ s s (advanceRows s k) r number }
 
-      pub walk-refused : {qs : List LinePlace} → qs ≡ replicate linePlaces noLine → Walked s k (record { answer = a; state = s; left = 0; count = 0; lines = qs })
+      pub walk-refused : {qs : List LinePlace} → qs ≡ replicate linePlaces noLine → Walked s k (record { answer = a; state = s; left = 0; shown = 0; lines = qs })
       unfolding walkLines walkState walkLeft
       walk-refused g =
           let none : [] ≡ walkLines k s = told-nothing (lines linePlaces k) [] s (advanceRows s k) r number in
@@ -77,7 +77,7 @@ module _ (s : State) (k : ℕ) where
             answer = e;
             state = told-nothing _ s s (advanceRows s k) r number;
             left = told-nothing _ 0 s (advanceRows s k) r number;
-            count = ap length none;
+            shown = ap length none;
             lines = g ∙ ap (λ (l : List Line). padded linePlaces noLine (map linePlace l)) none;
           }
 

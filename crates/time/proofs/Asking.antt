@@ -34,11 +34,11 @@ module _ (s : State) where
 
     -- the code's choice and its first spare are the rules'
     pub ask-next : {gs : List GuestPlace} {q : Pick} {p : Portion} → gs ≡ placed (renewed (model s) .guests) → q ≡ earliest 0 (inUse (s .table .count) gs)
-        → p ≡ portionFor q (firstOf (ltb 0 (s .count)) (getD (s .spares) 0 noSparePlace)) → p ≡ ask (model s)
+        → p ≡ portionFor q (firstOf (ltb 0 (s .listed)) (getD (s .spares) 0 noSparePlace)) → p ≡ ask (model s)
     unfolding ask next renewed model
     ask-next eg eq ep =
         let m = model s in
         let long : length (renewed m .guests) ≡ s .table .count = length-map (m .guests) renew ∙ guests-count s h in
         ep
-        ∙ ap (λ (q : Pick). portionFor q (firstOf (ltb 0 (s .count)) (getD (s .spares) 0 noSparePlace))) (eq ∙ earliest-in (s .table .count) (renewed m .guests) eg long)
-        ∙ portion-in (s .spares) 0 (s .count) 0 (points s h .few) (spares-long s h) (λ _. refl) (omega arith) (earliest 0 (renewed m .guests))
+        ∙ ap (λ (q : Pick). portionFor q (firstOf (ltb 0 (s .listed)) (getD (s .spares) 0 noSparePlace))) (eq ∙ earliest-in (s .table .count) (renewed m .guests) eg long)
+        ∙ portion-in (s .spares) 0 (s .listed) 0 (points s h .few) (spares-long s h) (λ _. refl) (omega arith) (earliest 0 (renewed m .guests))

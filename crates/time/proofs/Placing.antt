@@ -58,9 +58,9 @@ placeAt s i = getD (s .guests) i noGuestPlace
 abbrev pub Here : State → ℕ → Guest
 Here s i = guestOf (entryAt s i) (placeAt s i)
 
-in-range : (Q T jobs c d own lent : ℕ) → InRange (guest Q T jobs c d own lent) → jobs ≤ mostJobs
-in-range Q T zero c d own lent r = omega arith
-in-range Q T (suc jobs) c d own lent r = r .0
+in-range : (Q T jobs c d own borrowed : ℕ) → InRange (guest Q T jobs c d own borrowed) → jobs ≤ mostJobs
+in-range Q T zero c d own borrowed r = omega arith
+in-range Q T (suc jobs) c d own borrowed r = r .0
 
 module _ (s : State) (h : sound s ≡ true) where
   pub guests-back : placed (model s .guests) ≡ s .guests
@@ -71,9 +71,9 @@ module _ (s : State) (h : sound s ≡ true) where
   unfolding packed
   spares-back = ap (λ (t : State). t .spares) (packed-back s h)
 
-  pub spares-count : length (model s .spares) ≡ s .count
+  pub spares-count : length (model s .spares) ≡ s .listed
   unfolding packed
-  spares-count = ap (λ (t : State). t .count) (packed-back s h)
+  spares-count = ap (λ (t : State). t .listed) (packed-back s h)
 
   table-back : tableOf (model s) ≡ s .table
   unfolding packed
@@ -82,17 +82,17 @@ module _ (s : State) (h : sound s ≡ true) where
   pub table-good : Good (s .table)
   table-good = good-table (s .table) (points s h .table)
 
-  both-unused : (unused guestPlaceIsZero guestPlaces (s .table .count) (s .guests) ≡ true) × (unused sparePlaceIsZero sparePlaces (s .count) (s .spares) ≡ true)
-  both-unused = and-both _ (unused sparePlaceIsZero sparePlaces (s .count) (s .spares)) (points s h .rest)
+  both-unused : (unused guestPlaceIsZero guestPlaces (s .table .count) (s .guests) ≡ true) × (unused sparePlaceIsZero sparePlaces (s .listed) (s .spares) ≡ true)
+  both-unused = and-both _ (unused sparePlaceIsZero sparePlaces (s .listed) (s .spares)) (points s h .rest)
 
-  pub spares-unused : unused sparePlaceIsZero sparePlaces (s .count) (s .spares) ≡ true
+  pub spares-unused : unused sparePlaceIsZero sparePlaces (s .listed) (s .spares) ≡ true
   spares-unused = both-unused .1
 
   pub guests-long : length (s .guests) ≡ guestPlaces
   guests-long = length-places guestPlaceIsZero noGuestPlace guest-zero guestPlaces (s .table .count) (s .guests) (both-unused .0)
 
   pub spares-long : length (s .spares) ≡ sparePlaces
-  spares-long = length-places sparePlaceIsZero noSparePlace spare-zero sparePlaces (s .count) (s .spares) spares-unused
+  spares-long = length-places sparePlaceIsZero noSparePlace spare-zero sparePlaces (s .listed) (s .spares) spares-unused
 
   pub entries-long : length (s .table .entries) ≡ guestPlaces
   entries-long =
@@ -103,13 +103,13 @@ module _ (s : State) (h : sound s ≡ true) where
 
   -- in fields, whatever the step did to the guests' numbers and to the spares
   pub packed-fields : (m : Model) → m .frame ≡ s .table .frame → map entryOf (m .guests) ≡ map entryOf (model s .guests)
-      → packed m ≡ record { table = s .table; now = m .now; guests = placed (m .guests); count = length (m .spares); spares = listed (m .spares); burned = m .burned; idle = m .idle }
+      → packed m ≡ record { table = s .table; now = m .now; guests = placed (m .guests); listed = length (m .spares); spares = listed (m .spares); burned = m .burned; empty = m .empty }
   unfolding packed tableOf model
   packed-fields m f e =
       let long : length (m .guests) ≡ length (model s .guests) = sym (length-map (m .guests) entryOf) ∙ ap length e ∙ length-map (model s .guests) entryOf in
       let same : tableOf m ≡ tableOf (model s) = λ j. record { frame = f j; count = long j; entries = padded guestPlaces noEntry (e j) } in
       let table = same ∙ table-back in
-      λ j. record { table = table j; now = m .now; guests = placed (m .guests); count = length (m .spares); spares = listed (m .spares); burned = m .burned; idle = m .idle }
+      λ j. record { table = table j; now = m .now; guests = placed (m .guests); listed = length (m .spares); spares = listed (m .spares); burned = m .burned; empty = m .empty }
 
   -- ---- one of its guests
 
@@ -133,26 +133,26 @@ module _ (s : State) (h : sound s ≡ true) where
     jobs-few =
         let e = entryAt s i in
         let g = placeAt s i in
-        in-range (e .budget) (e .period) (g .jobs) (g .left) (g .deadline) (g .own) (g .lent) (guest-good .range)
+        in-range (e .budget) (e .period) (g .jobs) (g .current) (g .deadline) (g .own) (g .borrowed) (guest-good .range)
 
     pub guest-changed : (f : Guest → Guest) → placed (changed i f (model s .guests)) ≡ set (s .guests) i (guestPlace (f (guestAt i (model s .guests))))
     guest-changed f = placed-changed (model s .guests) i guest-inside f ∙ ap (λ (gs : List GuestPlace). set gs i (guestPlace (f (guestAt i (model s .guests))))) guests-back
 
     -- the whole state after a step that changes this guest and the spares
     pub step-packed : (f : Guest → Guest) → ((g : Guest) → entryOf (f g) ≡ entryOf g) → (ss : List Spare)
-        → packed (but (model s) (changed i f (model s .guests)) ss) ≡ record { table = s .table; now = s .now; guests = set (s .guests) i (guestPlace (f (Here s i))); count = length ss; spares = listed ss; burned = s .burned; idle = s .idle }
+        → packed (but (model s) (changed i f (model s .guests)) ss) ≡ record { table = s .table; now = s .now; guests = set (s .guests) i (guestPlace (f (Here s i))); listed = length ss; spares = listed ss; burned = s .burned; empty = s .empty }
     unfolding model
     step-packed f keeps ss =
         let guests = guest-changed f ∙ ap (λ (g : Guest). set (s .guests) i (guestPlace (f g))) guest-here in
         packed-fields (but (model s) (changed i f (model s .guests)) ss) refl (map-changed entryOf f keeps i (model s .guests))
-        ∙ (λ j. record { table = s .table; now = s .now; guests = guests j; count = length ss; spares = listed ss; burned = s .burned; idle = s .idle })
+        ∙ (λ j. record { table = s .table; now = s .now; guests = guests j; listed = length ss; spares = listed ss; burned = s .burned; empty = s .empty })
 
     -- and where the spares stay, with what the code stored
     pub guest-stored : (f : Guest → Guest) → ((g : Guest) → entryOf (f g) ≡ entryOf g) → {g : GuestPlace} → g ≡ guestPlace (f (Here s i))
-        → record { table = s .table; now = s .now; guests = set (s .guests) i g; count = s .count; spares = s .spares; burned = s .burned; idle = s .idle } ≡ packed (but (model s) (changed i f (model s .guests)) (model s .spares))
+        → record { table = s .table; now = s .now; guests = set (s .guests) i g; listed = s .listed; spares = s .spares; burned = s .burned; empty = s .empty } ≡ packed (but (model s) (changed i f (model s .guests)) (model s .spares))
     guest-stored f keeps e =
         let count = spares-count in
         let spares = spares-back in
         sym
         (step-packed f keeps (model s .spares)
-        ∙ (λ j. record { table = s .table; now = s .now; guests = set (s .guests) i (sym e j); count = count j; spares = spares j; burned = s .burned; idle = s .idle }))
+        ∙ (λ j. record { table = s .table; now = s .now; guests = set (s .guests) i (sym e j); listed = count j; spares = spares j; burned = s .burned; empty = s .empty }))

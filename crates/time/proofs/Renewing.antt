@@ -25,24 +25,24 @@ use Rattle.time.proofs.Placing.{placed-changed, guests-back, table-good
 
 module _ (e : Entry) (g : GuestPlace) where
   abbrev renewal : ℕ → ℕ → GuestPlace
-  renewal j c = guestPlace (renew (guestOf e (record { jobs = j; left = c; deadline = g .deadline; own = g .own; lent = g .lent })))
+  renewal j c = guestPlace (renew (guestOf e (record { jobs = j; current = c; deadline = g .deadline; own = g .own; borrowed = g .borrowed })))
 
   pub renew-idle : g .jobs ≡ 0 → g ≡ guestPlace (renew (guestOf e g))
-  renew-idle h = (λ i. record { jobs = h i; left = g .left; deadline = g .deadline; own = g .own; lent = g .lent }) ∙ ap (λ (j : ℕ). renewal j (g .left)) (sym h)
+  renew-idle h = (λ i. record { jobs = h i; current = g .current; deadline = g .deadline; own = g .own; borrowed = g .borrowed }) ∙ ap (λ (j : ℕ). renewal j (g .current)) (sym h)
 
-  pub renew-left : (g .left ≡ 0 → ⊥) → g ≡ guestPlace (renew (guestOf e g))
-  renew-left h = go (g .jobs) (g .left) h
+  pub renew-left : (g .current ≡ 0 → ⊥) → g ≡ guestPlace (renew (guestOf e g))
+  renew-left h = go (g .jobs) (g .current) h
     where
-      go : (j c : ℕ) → (c ≡ 0 → ⊥) → record { jobs = j; left = c; deadline = g .deadline; own = g .own; lent = g .lent } ≡ renewal j c
+      go : (j c : ℕ) → (c ≡ 0 → ⊥) → record { jobs = j; current = c; deadline = g .deadline; own = g .own; borrowed = g .borrowed } ≡ renewal j c
       go zero c n = refl
       go (suc j) zero n = absurd (n refl)
       go (suc j) (suc c) n = refl
 
-  pub renew-spent : (g .jobs ≡ 0 → ⊥) → g .left ≡ 0
-      → record { jobs = g .jobs; left = e .budget; deadline = g .deadline + e .period; own = g .own; lent = g .lent } ≡ guestPlace (renew (guestOf e g))
+  pub renew-spent : (g .jobs ≡ 0 → ⊥) → g .current ≡ 0
+      → record { jobs = g .jobs; current = e .budget; deadline = g .deadline + e .period; own = g .own; borrowed = g .borrowed } ≡ guestPlace (renew (guestOf e g))
   renew-spent n h = go (g .jobs) n ∙ ap (λ (c : ℕ). renewal (g .jobs) c) (sym h)
     where
-      go : (j : ℕ) → (j ≡ 0 → ⊥) → record { jobs = j; left = e .budget; deadline = g .deadline + e .period; own = g .own; lent = g .lent } ≡ renewal j 0
+      go : (j : ℕ) → (j ≡ 0 → ⊥) → record { jobs = j; current = e .budget; deadline = g .deadline + e .period; own = g .own; borrowed = g .borrowed } ≡ renewal j 0
       go zero n = absurd (n refl)
       go (suc j) n = refl
 
@@ -96,11 +96,11 @@ module _ {gs : List Guest} {i : ℕ} {t : List GuestPlace} (r : Renewing gs i t)
 
 -- T
 abbrev periodOf : Guest → ℕ
-periodOf (guest Q T jobs c d own lent) = T
+periodOf (guest Q T jobs c d own borrowed) = T
 
 -- a period added to a deadline can't wrap
 pub deadline-fits : (now : ℕ) (g : Guest) → now ≤ lastTick → GuestGood (deadlineBound now) g → deadlineOf g + periodOf g < 2 ^ 64
-deadline-fits now (guest Q T jobs c d own lent) l p = omega (arith, p .served, p .early)
+deadline-fits now (guest Q T jobs c d own borrowed) l p = omega (arith, p .served, p .early)
 
 module _ (s : State) (h : sound s ≡ true) where
   abbrev gs : List Guest

@@ -61,12 +61,12 @@ from-lowest : (digits i : ℕ) (gs : List Guest) → length gs ≤ digits
     → earliest (i + trailingZeros digits (maskOf gs)) (drop (trailingZeros digits (maskOf gs)) gs) ≡ earliest i gs
 from-lowest digits i [] h = rw drop-nil
 from-lowest zero i (g ∷ gs) h = absurd (omega arith)
-from-lowest (suc digits) i (guest Q T zero c d own lent ∷ gs) h =
+from-lowest (suc digits) i (guest Q T zero c d own borrowed ∷ gs) h =
     let t = trailingZeros digits (maskOf gs) in
     let next : i + suc t ≡ suc i + t = omega arith in
-    rw (lowest-step digits (guest Q T zero c d own lent) gs, next) (from-lowest digits (suc i) gs (omega arith))
-from-lowest (suc digits) i (guest Q T (suc jobs) c d own lent ∷ gs) h =
-    let g = guest Q T (suc jobs) c d own lent in
+    rw (lowest-step digits (guest Q T zero c d own borrowed) gs, next) (from-lowest digits (suc i) gs (omega arith))
+from-lowest (suc digits) i (guest Q T (suc jobs) c d own borrowed ∷ gs) h =
+    let g = guest Q T (suc jobs) c d own borrowed in
     rw (lowest-step digits g gs) (ap (λ (k : ℕ). earliest k (g ∷ gs)) (add-zero i))
 
 -- so the search may start at it
@@ -77,7 +77,7 @@ lowest-first digits gs e h = rw e (rw zero-add at (from-lowest digits 0 gs h))
 
 -- a guest in its place, with so many jobs
 abbrev with-jobs : GuestPlace → ℕ → GuestPlace
-with-jobs g j = record { jobs = j; left = g .left; deadline = g .deadline; own = g .own; lent = g .lent }
+with-jobs g j = record { jobs = j; current = g .current; deadline = g .deadline; own = g .own; borrowed = g .borrowed }
 
 -- the better of two guests is the sooner of their picks
 better-by : (i k : ℕ) (b g : GuestPlace) (m n : ℕ)
@@ -91,8 +91,8 @@ better-by i k b g (suc m) (suc n) =
     let q = with-jobs g (suc n) in
     rw (eqb·suc-zero n, eqb·suc-zero m)
     (by-ltb (λ t. ready (cond t k i) (shown (cond t q p)) ≡ sooner (ready i (shown p)) (ready k (shown q))) (g .deadline) (b .deadline)
-    (λ l. second-picked i (b .deadline) (b .left) k (g .deadline) (g .left) l)
-    (λ l. first-picked i (b .deadline) (b .left) k (g .deadline) (g .left) l))
+    (λ l. second-picked i (b .deadline) (b .current) k (g .deadline) (g .current) l)
+    (λ l. first-picked i (b .deadline) (b .current) k (g .deadline) (g .current) l))
 
 -- guest i, and an empty place where there is none
 abbrev pub here : List GuestPlace → ℕ → GuestPlace

@@ -24,7 +24,7 @@ use Rattle.rules.specs.declared.Walk.{Walk}
 use Rattle.rules.specs.Limits.{guestPlaces, sparePlaces, linePlaces, lastTick, longestFrame, deadlineBound}
 use Rattle.rules.specs.Lines.{Line, line, ticksOn, lineFor, lines}
 use Rattle.rules.specs.Calls.{portionOf}
-use Rattle.rules.specs.Model.{Guest, guest, Spare, spare, Model, bitOf, maskOf, leftOf, deadlineOf, talliesOf, capacityOf, noGuest, guestAt, spareAt}
+use Rattle.rules.specs.Model.{Guest, guest, Spare, spare, Model, bitOf, maskOf, currentOf, deadlineOf, talliesOf, capacityOf, noGuest, guestAt, spareAt}
 use Rattle.rules.specs.Places.{guestOf, spareOf, model, entryOf, guestPlace, sparePlace, noGuestPlace, noSparePlace, packed}
 use Rattle.rules.specs.Sound.{sound}
 use Rattle.rules.specs.Steps.{but, renew, renewed, Pick, nobody, picked, ready, earliest, useOf, spanOf, portionFor, ran, advance, ask}
@@ -60,15 +60,15 @@ pub record Shows (s : State) (x : Model) (ps : List GuestPlace) (ss : List Spare
   pub frame : x .frame ≡ s .table .frame
   pub entries : map entryOf (x .guests) ≡ map entryOf (model s .guests)
   pub guests : ps ≡ placed (x .guests)
-  pub spares : map spareOf (slice (h .head) (s .count) ss) ≡ x .spares
-  pub head : h .head ≤ s .count
+  pub spares : map spareOf (slice (h .head) (s .listed) ss) ≡ x .spares
+  pub head : h .head ≤ s .listed
   pub now : h .now ≡ x .now
   pub burned : h .burned ≡ x .burned
-  pub idle : h .idle ≡ x .idle
+  pub empty : h .empty ≡ x .empty
 
 -- a guest is its entry and its place
 whole : (g : Guest) → guestOf (entryOf g) (guestPlace g) ≡ g
-whole (guest Q T jobs c d own lent) = refl
+whole (guest Q T jobs c d own borrowed) = refl
 
 module _ (s : State) (h : sound s ≡ true) (x : Model) (same : map entryOf (x .guests) ≡ map entryOf (model s .guests)) where
   -- as many guests as the table says
@@ -92,13 +92,13 @@ module _ (s : State) (h : sound s ≡ true) (x : Model) (same : map entryOf (x .
 
 earliest-placed : (i : ℕ) (gs : List Guest) → earliest i (map shown (map guestPlace gs)) ≡ earliest i gs
 earliest-placed i [] = refl
-earliest-placed i (guest Q T zero c d own lent ∷ gs) = earliest-placed (suc i) gs
-earliest-placed i (guest Q T (suc jobs) c d own lent ∷ gs) = rw (earliest-placed (suc i) gs)
+earliest-placed i (guest Q T zero c d own borrowed ∷ gs) = earliest-placed (suc i) gs
+earliest-placed i (guest Q T (suc jobs) c d own borrowed ∷ gs) = rw (earliest-placed (suc i) gs)
 
 mask-placed : (gs : List Guest) → maskOf (map shown (map guestPlace gs)) ≡ maskOf gs
 mask-placed [] = refl
-mask-placed (guest Q T zero c d own lent ∷ gs) = rw (mask-placed gs)
-mask-placed (guest Q T (suc jobs) c d own lent ∷ gs) = rw (mask-placed gs)
+mask-placed (guest Q T zero c d own borrowed ∷ gs) = rw (mask-placed gs)
+mask-placed (guest Q T (suc jobs) c d own borrowed ∷ gs) = rw (mask-placed gs)
 
 -- the mask of guests in places
 pub mask-in : (n : ℕ) (gs : List Guest) {guests : List GuestPlace} → guests ≡ placed gs → length gs ≡ n → maskOf (inUse n guests) ≡ maskOf gs
@@ -208,21 +208,21 @@ settled-one i none = refl
 settled-one zero (each e es) = rw e
 settled-one (suc i) (each e es) = rw (settled-one i es)
 
-place-ran : (c : Charge) (g : Guest) → ranPlace c (guestPlace g) ≡ guestPlace (ran (c .own) (c .lent) g)
-place-ran c (guest Q T jobs l d own lent) = refl
+place-ran : (c : Charge) (g : Guest) → ranPlace c (guestPlace g) ≡ guestPlace (ran (c .own) (c .borrowed) g)
+place-ran c (guest Q T jobs l d own borrowed) = refl
 
 -- a renewed deadline is one period later at most
 early-renew : (bound : ℕ) (g : Guest) → GuestGood bound g → deadlineOf (renew g) ≤ bound + longestFrame
-early-renew bound (guest Q T zero c d own lent) p = omega (arith, p .early)
-early-renew bound (guest Q T (suc jobs) zero d own lent) p = omega (arith, p .early, p .served)
-early-renew bound (guest Q T (suc jobs) (suc c) d own lent) p = omega (arith, p .early)
+early-renew bound (guest Q T zero c d own borrowed) p = omega (arith, p .early)
+early-renew bound (guest Q T (suc jobs) zero d own borrowed) p = omega (arith, p .early, p .served)
+early-renew bound (guest Q T (suc jobs) (suc c) d own borrowed) p = omega (arith, p .early)
 
 -- and in its place, or in an empty one
 placed-early : (gs : List Guest) (rest i : ℕ) → All (λ g. deadlineOf g ≤ 2 ^ 62) gs → getD (map guestPlace gs ++ replicate rest noGuestPlace) i noGuestPlace .deadline ≤ 2 ^ 62
 placed-early [] zero i none = omega arith
 placed-early [] (suc rest) zero none = omega arith
 placed-early [] (suc rest) (suc i) none = placed-early [] rest i none
-placed-early (guest Q T jobs c d own lent ∷ gs) rest zero (each e es) = e
+placed-early (guest Q T jobs c d own borrowed ∷ gs) rest zero (each e es) = e
 placed-early (g ∷ gs) rest (suc i) (each e es) = placed-early gs rest i es
 
 -- so each is a number that comes before `never`
@@ -240,11 +240,11 @@ tally-at zero (g ∷ gs) h = omega arith
 tally-at (suc i) (g ∷ gs) h = omega (arith, tally-at i gs (omega arith))
 
 -- a guest's numbers stand in its place
-place-left : (g : Guest) → guestPlace g .left ≡ leftOf g
-place-left (guest Q T jobs c d own lent) = refl
+place-left : (g : Guest) → guestPlace g .current ≡ currentOf g
+place-left (guest Q T jobs c d own borrowed) = refl
 
-place-tallies : (g : Guest) → guestPlace g .own + guestPlace g .lent ≡ talliesOf g
-place-tallies (guest Q T jobs c d own lent) = refl
+place-tallies : (g : Guest) → guestPlace g .own + guestPlace g .borrowed ≡ talliesOf g
+place-tallies (guest Q T jobs c d own borrowed) = refl
 
 -- one portion of some ticks
 ticks-one : (k : ℕ) (m : Model) → 0 < k → ticksIn 1 k m ≡ ticksOn k (spanOf (ask m))
@@ -287,10 +287,10 @@ pub record Turned (s : State) (k from : ℕ) (ds : List ℕ) (ps : List GuestPla
   pub inside : g .guest < s .table .count
   pub ran :
       let b = getD (set ps (c .last) r) (g .guest) noGuestPlace in
-      (g .own ≤ b .left) × (b .own + g .own < 2 ^ 64) × (b .lent + g .lent < 2 ^ 64)
+      (g .own ≤ b .current) × (b .own + g .own < 2 ^ 64) × (b .borrowed + g .borrowed < 2 ^ 64)
   pub spent : g .spent ≤ getD ss at noSparePlace .capacity
   pub now : c .now + g .ticks < 2 ^ 64
-  pub later : (g .ticks ≤ c .left) × (c .now + g .ticks < 2 ^ 64) × (c .burned + g .burned < 2 ^ 64) × (c .idle + g .idle < 2 ^ 64) × (c .head + g .removed < 2 ^ 64)
+  pub later : (g .ticks ≤ c .left) × (c .now + g .ticks < 2 ^ 64) × (c .burned + g .burned < 2 ^ 64) × (c .empty + g .empty < 2 ^ 64) × (c .head + g .removed < 2 ^ 64)
   pub more :
       {a : GuestPlace} {y : SparePlace} {b : LinePlace} {d : Clock} {more : Bool} → a ≡ ranPlace g (getD (set ps (c .last) r) (g .guest) noGuestPlace)
       → y ≡ spentPlace g (getD ss at noSparePlace) → b ≡ linePlace (line (c .now) (c .now + g .ticks) (useOf (portionOf next))) → d ≡ laterBy g c
@@ -309,9 +309,9 @@ module _ (s : State) (k from : ℕ) (h : sound s ≡ true) (time : s .now + k �
 
   begun-shows : (n : ℕ) {ps : List GuestPlace} → ps ≡ placed (begunFrom n (model s) .guests) → Shows s (begunFrom n (model s)) ps (s .spares) (startedAt s k)
   unfolding model renewed
-  begun-shows zero e = record { frame = refl; entries = refl; guests = e; spares = refl; head = omega arith; now = refl; burned = refl; idle = refl }
+  begun-shows zero e = record { frame = refl; entries = refl; guests = e; spares = refl; head = omega arith; now = refl; burned = refl; empty = refl }
   begun-shows (suc n) e =
-      record { frame = refl; entries = map-same entryOf renew entry-renew (model s .guests); guests = e; spares = refl; head = omega arith; now = refl; burned = refl; idle = refl }
+      record { frame = refl; entries = map-same entryOf renew entry-renew (model s .guests); guests = e; spares = refl; head = omega arith; now = refl; burned = refl; empty = refl }
 
   begun-early : (n : ℕ) → All (λ g. deadlineOf g ≤ 2 ^ 62) (begunFrom n (model s) .guests)
   unfolding renewed model
@@ -397,10 +397,10 @@ module _ (s : State) (k from : ℕ) (h : sound s ≡ true) (time : s .now + k �
         abbrev Y : SparePlace
         Y = getD ss at noSparePlace
 
-        few : s .count ≤ sparePlaces
+        few : s .listed ≤ sparePlaces
         few = points s h .few
 
-        spares-shown : map spareOf (slice (c .head) (s .count) ss) ≡ R .spares
+        spares-shown : map spareOf (slice (c .head) (s .listed) ss) ≡ R .spares
         spares-shown = w .shows .spares ∙ spares-ready
 
         count-shown : length (R .guests) ≡ s .table .count
@@ -427,14 +427,14 @@ module _ (s : State) (k from : ℕ) (h : sound s ≡ true) (time : s .now + k �
             ∙ w .first (inUse n gs₁) (mask-in n (R .guests) turn-renewed count-shown ∙ same-active) (in-use-few 32 n gs₁ guestPlaces long-here (omega arith))
             ∙ earliest-in n (R .guests) turn-renewed count-shown
 
-        module _ (next : DeclaredPortion) (en : portionOf next ≡ portionFor q (firstOf (ltb (c .head) (s .count)) Y)) where
+        module _ (next : DeclaredPortion) (en : portionOf next ≡ portionFor q (firstOf (ltb (c .head) (s .listed)) Y)) where
           -- it is what the rules ask
           turn-next : portionOf next ≡ ask M
           unfolding ask Steps.next
           turn-next =
               en
-              ∙ ap (λ (q : Pick). portionFor q (firstOf (ltb (c .head) (s .count)) Y)) chosen
-              ∙ portion-in ss (c .head) (s .count) at few long ea (w .shows .head) (earliest 0 (R .guests))
+              ∙ ap (λ (q : Pick). portionFor q (firstOf (ltb (c .head) (s .listed)) Y)) chosen
+              ∙ portion-in ss (c .head) (s .listed) at few long ea (w .shows .head) (earliest 0 (R .guests))
               ∙ ap (portionFor (earliest 0 (R .guests))) spares-shown
 
           module _ {g : Charge} (eg : g ≡ chargeOf (c .left) (c .last) next) where
@@ -454,7 +454,7 @@ module _ (s : State) (k from : ℕ) (h : sound s ≡ true) (time : s .now + k �
             place-here : B ≡ guestPlace (guestAt (g .guest) (R .guests))
             place-here = ap (λ (gs : List GuestPlace). getD gs (g .guest) noGuestPlace) turn-renewed ∙ placed-at (R .guests) (g .guest) (fits .names)
 
-            tallies-here : B .own + B .lent ≤ lastTick
+            tallies-here : B .own + B .borrowed ≤ lastTick
             unfolding renewed
             tallies-here =
                 rw place-here
@@ -463,22 +463,22 @@ module _ (s : State) (k from : ℕ) (h : sound s ≡ true) (time : s .now + k �
             ticks-left : g .ticks ≤ lastTick
             ticks-left = omega (arith, fits .most, w .left, time)
 
-            turn-ran : (g .own ≤ B .left) × (B .own + g .own < 2 ^ 64) × (B .lent + g .lent < 2 ^ 64)
+            turn-ran : (g .own ≤ B .current) × (B .own + g .own < 2 ^ 64) × (B .borrowed + g .borrowed < 2 ^ 64)
             turn-ran =
-                let own : g .own ≤ B .left = rw (place-here, place-left) (fits .own) in
-                (own, omega (arith, tallies-here, ticks-left, fits .own-ticks), omega (arith, tallies-here, ticks-left, fits .lent-ticks))
+                let own : g .own ≤ B .current = rw (place-here, place-left) (fits .own) in
+                (own, omega (arith, tallies-here, ticks-left, fits .own-ticks), omega (arith, tallies-here, ticks-left, fits .borrowed-ticks))
 
-            spent-fits : g .spent ≤ capacityOf (spareAt 0 (map spareOf (slice (c .head) (s .count) ss)))
+            spent-fits : g .spent ≤ capacityOf (spareAt 0 (map spareOf (slice (c .head) (s .listed) ss)))
             spent-fits = rw spares-shown (fits .spent)
 
-            removed-fits : g .removed ≤ length (map spareOf (slice (c .head) (s .count) ss))
+            removed-fits : g .removed ≤ length (map spareOf (slice (c .head) (s .listed) ss))
             removed-fits = rw spares-shown (fits .removed)
 
             turn-spent : g .spent ≤ Y .capacity
-            turn-spent = spent-in ss (c .head) (s .count) at few long ea (w .shows .head) g spent-fits removed-fits
+            turn-spent = spent-in ss (c .head) (s .listed) at few long ea (w .shows .head) g spent-fits removed-fits
 
-            head-fits : c .head + g .removed ≤ s .count
-            head-fits = head-in ss (c .head) (s .count) at few long ea (w .shows .head) g spent-fits removed-fits
+            head-fits : c .head + g .removed ≤ s .listed
+            head-fits = head-in ss (c .head) (s .listed) at few long ea (w .shows .head) g spent-fits removed-fits
 
             now-here : c .now ≡ M .now
             unfolding renewed
@@ -488,17 +488,17 @@ module _ (s : State) (k from : ℕ) (h : sound s ≡ true) (time : s .now + k �
             unfolding renewed
             burned-here = w .shows .burned ∙ ap (λ (m : Model). m .burned) (w .ready some)
 
-            idle-here : c .idle ≡ M .idle
+            empty-here : c .empty ≡ M .empty
             unfolding renewed
-            idle-here = w .shows .idle ∙ ap (λ (m : Model). m .idle) (w .ready some)
+            empty-here = w .shows .empty ∙ ap (λ (m : Model). m .empty) (w .ready some)
 
             turn-now : c .now + g .ticks < 2 ^ 64
             turn-now = omega (arith, now-here, reached-sane count .time, ticks-left)
 
-            turn-later : (g .ticks ≤ c .left) × (c .now + g .ticks < 2 ^ 64) × (c .burned + g .burned < 2 ^ 64) × (c .idle + g .idle < 2 ^ 64) × (c .head + g .removed < 2 ^ 64)
+            turn-later : (g .ticks ≤ c .left) × (c .now + g .ticks < 2 ^ 64) × (c .burned + g .burned < 2 ^ 64) × (c .empty + g .empty < 2 ^ 64) × (c .head + g .removed < 2 ^ 64)
             turn-later =
                 let t = reached-sane count in
-                (fits .most, turn-now, omega (arith, burned-here, t .tally, t .time, ticks-left, fits .burned-ticks), omega (arith, idle-here, t .tally, t .time, ticks-left, fits .idle-ticks), omega (arith, head-fits, few))
+                (fits .most, turn-now, omega (arith, burned-here, t .tally, t .time, ticks-left, fits .burned-ticks), omega (arith, empty-here, t .tally, t .time, ticks-left, fits .empty-ticks), omega (arith, head-fits, few))
 
             -- the portion is one more that the walk has reached
             next-ticks : ticksIn (count + 1) k (model s) ≡ ticksIn count k (model s) + g .ticks
@@ -516,16 +516,16 @@ module _ (s : State) (k from : ℕ) (h : sound s ≡ true) (time : s .now + k �
             unfolding renewed
             next-shows {a} {y} e f =
                 let i = g .guest in
-                let stored : a ≡ guestPlace (ran (g .own) (g .lent) (guestAt i (R .guests))) = e ∙ ap (ranPlace g) place-here ∙ place-ran g (guestAt i (R .guests)) in
+                let stored : a ≡ guestPlace (ran (g .own) (g .borrowed) (guestAt i (R .guests))) = e ∙ ap (ranPlace g) place-here ∙ place-ran g (guestAt i (R .guests)) in
                 record {
                   frame = ap (λ (m : Model). m .frame) (sym (w .ready some)) ∙ w .shows .frame;
-                  entries = map-changed entryOf (ran (g .own) (g .lent)) (entry-ran (g .own) (g .lent)) i (R .guests) ∙ same-entries;
-                  guests = ap₂ (λ (gs : List GuestPlace) (b : GuestPlace). set gs i b) turn-renewed stored ∙ sym (placed-changed (R .guests) i (fits .names) (ran (g .own) (g .lent)));
-                  spares = rw f (lost-in ss (c .head) (s .count) at few long ea (w .shows .head) g spent-fits removed-fits) ∙ ap (lostBy g) spares-shown;
+                  entries = map-changed entryOf (ran (g .own) (g .borrowed)) (entry-ran (g .own) (g .borrowed)) i (R .guests) ∙ same-entries;
+                  guests = ap₂ (λ (gs : List GuestPlace) (b : GuestPlace). set gs i b) turn-renewed stored ∙ sym (placed-changed (R .guests) i (fits .names) (ran (g .own) (g .borrowed)));
+                  spares = rw f (lost-in ss (c .head) (s .listed) at few long ea (w .shows .head) g spent-fits removed-fits) ∙ ap (lostBy g) spares-shown;
                   head = head-fits;
                   now = ap (λ (n : ℕ). n + g .ticks) now-here;
                   burned = ap (λ (n : ℕ). n + g .burned) burned-here;
-                  idle = ap (λ (n : ℕ). n + g .idle) idle-here;
+                  empty = ap (λ (n : ℕ). n + g .empty) empty-here;
                 }
 
             next-lines : lines (count + 1) k (model s) ≡ lines count k (model s) ++ (lineFor M (c .left) ∷ [])
@@ -542,7 +542,7 @@ module _ (s : State) (k from : ℕ) (h : sound s ≡ true) (time : s .now + k �
             next-ready : but (made g R) (changed (g .guest) renew (made g R .guests)) (made g R .spares) ≡ renewed (reached s k (count + 1))
             unfolding renewed
             next-ready =
-                ap (λ (gs : List Guest). but (made g R) gs (made g R .spares)) (settled-but (g .guest) (ran (g .own) (g .lent)) (settled M (reached-sane count))) ∙ ap renewed next-reached
+                ap (λ (gs : List Guest). but (made g R) gs (made g R .spares)) (settled-but (g .guest) (ran (g .own) (g .borrowed)) (settled M (reached-sane count))) ∙ ap renewed next-reached
 
             turn-more : {a : GuestPlace} {y : SparePlace} {b : LinePlace} {d : Clock} {more : Bool} → a ≡ ranPlace g B → y ≡ spentPlace g Y
                 → b ≡ linePlace (line (c .now) (c .now + g .ticks) (useOf (portionOf next))) → d ≡ laterBy g c → more ≡ ltb 0 (d .left) && ltb (count + 1) linePlaces
@@ -553,7 +553,7 @@ module _ (s : State) (k from : ℕ) (h : sound s ≡ true) (time : s .now + k �
                   x = made g R;
                   shows = next-shows ra ry;
                   start = w .start;
-                  first = λ gs same few. w .first gs (same ∙ same-mask (made g R .guests) (R .guests) (map-changed bitOf (ran (g .own) (g .lent)) (bit-ran (g .own) (g .lent)) (g .guest) (R .guests)) ∙ same-active) few;
+                  first = λ gs same few. w .first gs (same ∙ same-mask (made g R .guests) (R .guests) (map-changed bitOf (ran (g .own) (g .borrowed)) (bit-ran (g .own) (g .borrowed)) (g .guest) (R .guests)) ∙ same-active) few;
                   dues = dues-here ∙ sym (map-set-same dueAt gs₁ (g .guest) a noGuestPlace (ap dueAt ra));
                   early = subst (λ (m : Model). All (λ g. deadlineOf g ≤ 2 ^ 62) (m .guests)) (sym next-reached) (reached-early (count + 1));
                   exact = λ _. next-reached;
@@ -582,7 +582,7 @@ module _ (s : State) (k from : ℕ) (h : sound s ≡ true) (time : s .now + k �
     unfolding model
     may = record { whole = h; time = time }
 
-    pub last-head : (c .head ≤ s .count) × (s .count ≤ sparePlaces)
+    pub last-head : (c .head ≤ s .listed) × (s .listed ≤ sparePlaces)
     last-head = (w .shows .head, points s h .few)
 
     -- nothing is left, or no place
@@ -609,10 +609,10 @@ module _ (s : State) (k from : ℕ) (h : sound s ≡ true) (time : s .now + k �
     last-state =
         let v = w .shows in
         let x = w .x in
-        let count = sym (ap length (sym (v .spares)) ∙ length-map (slice (c .head) (s .count) ss) spareOf ∙ length-slice (c .head) (s .count) ss (omega (arith, w .long, points s h .few))) in
-        let spares = ap (padded sparePlaces noSparePlace) (sym (spare-places (slice (c .head) (s .count) ss)) ∙ ap (λ (l : List Spare). map sparePlace l) (v .spares)) in
-        let fields : _≡_ {A = State} (stateOf s ps ss c) (record { table = s .table; now = x .now; guests = placed (x .guests); count = length (x .spares); spares = listed (x .spares); burned = x .burned; idle = x .idle }) =
-        λ j. record { table = s .table; now = v .now j; guests = v .guests j; count = count j; spares = spares j; burned = v .burned j; idle = v .idle j } in
+        let count = sym (ap length (sym (v .spares)) ∙ length-map (slice (c .head) (s .listed) ss) spareOf ∙ length-slice (c .head) (s .listed) ss (omega (arith, w .long, points s h .few))) in
+        let spares = ap (padded sparePlaces noSparePlace) (sym (spare-places (slice (c .head) (s .listed) ss)) ∙ ap (λ (l : List Spare). map sparePlace l) (v .spares)) in
+        let fields : _≡_ {A = State} (stateOf s ps ss c) (record { table = s .table; now = x .now; guests = placed (x .guests); listed = length (x .spares); spares = listed (x .spares); burned = x .burned; empty = x .empty }) =
+        λ j. record { table = s .table; now = v .now j; guests = v .guests j; listed = count j; spares = spares j; burned = v .burned j; empty = v .empty j } in
         fields ∙ sym (packed-fields s h x (v .frame) (v .entries))
 
     pub walking-end : {r : Walk} → r ≡ walkOf s ps ss qs c count → Walked s k r
@@ -623,6 +623,6 @@ module _ (s : State) (k from : ℕ) (h : sound s ≡ true) (time : s .now + k �
           answer = sym (advance-allowed s k may);
           state = last-state ∙ ap packed there ∙ sym (walk-state s k may);
           left = w .left ∙ ap (λ (n : ℕ). k - n) (sym last-ticks) ∙ sym (walk-left s k may);
-          count = sym (w .counted) ∙ ap length (sym last-lines ∙ sym (walk-lines s k may));
+          shown = sym (w .counted) ∙ ap length (sym last-lines ∙ sym (walk-lines s k may));
           lines = w .noted ∙ ap (λ (l : List Line). padded linePlaces noLine (map linePlace l)) (sym last-lines ∙ sym (walk-lines s k may));
         })

@@ -25,7 +25,7 @@ use Rattle.time.specs.declared.walking.Clock.{Clock}
 
 -- a guest in its place, after what is charged
 abbrev pub ranPlace : Charge → GuestPlace → GuestPlace
-ranPlace c g = record { jobs = g .jobs; left = g .left - c .own; deadline = g .deadline; own = g .own + c .own; lent = g .lent + c .lent }
+ranPlace c g = record { jobs = g .jobs; current = g .current - c .own; deadline = g .deadline; own = g .own + c .own; borrowed = g .borrowed + c .borrowed }
 
 -- the first spare in its place, after it
 abbrev pub spentPlace : Charge → SparePlace → SparePlace
@@ -48,7 +48,7 @@ begunFrom (suc k) m = renewed m
 
 -- before the first portion
 abbrev pub startedAt : State → ℕ → Clock
-startedAt s k = record { now = s .now; left = k; burned = s .burned; idle = s .idle; head = 0; last = 0 }
+startedAt s k = record { now = s .now; left = k; burned = s .burned; empty = s .empty; head = 0; last = 0 }
 
 -- after what was charged
 abbrev pub laterBy : Charge → Clock → Clock
@@ -57,7 +57,7 @@ laterBy c h =
       now = h .now + c .ticks;
       left = h .left - c .ticks;
       burned = h .burned + c .burned;
-      idle = h .idle + c .idle;
+      empty = h .empty + c .empty;
       head = h .head + c .removed;
       last = c .guest;
     }
@@ -69,16 +69,16 @@ stateOf s guests spares h =
       table = s .table;
       now = h .now;
       guests = guests;
-      count = s .count - h .head;
-      spares = padded sparePlaces noSparePlace (slice (h .head) (s .count) spares);
+      listed = s .listed - h .head;
+      spares = padded sparePlaces noSparePlace (slice (h .head) (s .listed) spares);
       burned = h .burned;
-      idle = h .idle;
+      empty = h .empty;
     }
 
 -- what the walk gives back
 abbrev pub walkOf : State → List GuestPlace → List SparePlace → List LinePlace → Clock → ℕ → Walk
 walkOf s guests spares lines h count =
-    record { answer = Went; state = stateOf s guests spares h; left = h .left; count = count; lines = lines }
+    record { answer = Went; state = stateOf s guests spares h; left = h .left; shown = count; lines = lines }
 
 -- ---- deadlines as plain numbers
 

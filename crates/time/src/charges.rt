@@ -7,13 +7,13 @@ use rules::Guest;
 use rules::Spare;
 
 pub(crate) fn ran(g: Guest, c: Charge) -> Guest
-    requires { ⌜ (c .own ≤ g .left) × (g .own + c .own < 2 ^ 64) × (g .lent + c .lent < 2 ^ 64) ⌝ }
+    requires { ⌜ (c .own ≤ g .current) × (g .own + c .own < 2 ^ 64) × (g .borrowed + c .borrowed < 2 ^ 64) ⌝ }
     ensures { λ r. ⌜ r ≡ ranPlace c g ⌝ }
 {
     Guest {
-        left: g.left - c.own,
+        current: g.current - c.own,
         own: g.own + c.own,
-        lent: g.lent + c.lent,
+        borrowed: g.borrowed + c.borrowed,
         ..g
     }
 }

@@ -43,7 +43,7 @@ pub fn ask(s: State) -> Asked
     let guests = guests_renewed(s);
     let pick = picked(guests, t.count);
     let first = s.spares[0];
-    let next = portion_for(pick, first, 0 < s.count);
+    let next = portion_for(pick, first, 0 < s.listed);
     Asked {
         answer: Answer::Went,
         next,
@@ -103,7 +103,7 @@ pub fn walk(s: State, k: u64) -> Walk
             answer,
             state: s,
             left: 0,
-            count: 0,
+            shown: 0,
             lines,
         };
     };

@@ -18,11 +18,11 @@ pub(crate) fn renewed(e: Entry, g: Guest) -> Guest
     if g.jobs == 0 {
         return g;
     }
-    if g.left != 0 {
+    if g.current != 0 {
         return g;
     }
     Guest {
-        left: e.budget,
+        current: e.budget,
         deadline: g.deadline + e.period,
         ..g
     }

@@ -42,7 +42,7 @@ pub(crate) struct Clock {
     pub(crate) now: u64,
     pub(crate) left: u64,
     pub(crate) burned: u64,
-    pub(crate) idle: u64,
+    pub(crate) empty: u64,
     pub(crate) head: usize,
     pub(crate) last: usize,
 }
@@ -69,14 +69,14 @@ fn spare_place(head: usize) -> usize
 }
 
 fn later(h: Clock, c: Charge) -> Clock
-    requires { ⌜ (c .ticks ≤ h .left) × (h .now + c .ticks < 2 ^ 64) × (h .burned + c .burned < 2 ^ 64) × (h .idle + c .idle < 2 ^ 64) × (h .head + c .removed < 2 ^ 64) ⌝ }
+    requires { ⌜ (c .ticks ≤ h .left) × (h .now + c .ticks < 2 ^ 64) × (h .burned + c .burned < 2 ^ 64) × (h .empty + c .empty < 2 ^ 64) × (h .head + c .removed < 2 ^ 64) ⌝ }
     ensures { λ r. ⌜ r ≡ laterBy c h ⌝ }
 {
     Clock {
         now: h.now + c.ticks,
         left: h.left - c.ticks,
         burned: h.burned + c.burned,
-        idle: h.idle + c.idle,
+        empty: h.empty + c.empty,
         head: h.head + c.removed,
         last: c.guest,
     }
@@ -150,7 +150,7 @@ fn started(s: State, k: u64) -> Clock
         now: s.now,
         left: k,
         burned: s.burned,
-        idle: s.idle,
+        empty: s.empty,
         head: 0,
         last: 0,
     }
@@ -165,24 +165,24 @@ fn walk_of(
     h: Clock,
     count: usize,
 ) -> Walk
-    requires { ⌜ (h .head ≤ s .count) × (s .count ≤ sparePlaces) ⌝ }
+    requires { ⌜ (h .head ≤ s .listed) × (s .listed ≤ sparePlaces) ⌝ }
     ensures { λ r. ⌜ r ≡ walkOf s guests spares lines h count ⌝ }
 {
-    let rest = spares_left(spares, h.head, s.count);
+    let rest = spares_left(spares, h.head, s.listed);
     let state = State {
         now: h.now,
         guests,
-        count: s.count - h.head,
+        listed: s.listed - h.head,
         spares: rest,
         burned: h.burned,
-        idle: h.idle,
+        empty: h.empty,
         ..s
     };
     Walk {
         answer: Answer::Went,
         state,
         left: h.left,
-        count,
+        shown: count,
         lines,
     }
 }
@@ -215,7 +215,7 @@ pub(crate) fn walked(s: State, k: u64) -> Walk
         let pick = order::ready(soon, f);
         let at = spare_place(h.head);
         let x = spares[at];
-        let portion = portion_for(pick, x, h.head < s.count);
+        let portion = portion_for(pick, x, h.head < s.listed);
         let c = charge_of(portion, h.left, last);
         let i = c.guest;
         let b = guests[i];

@@ -13,12 +13,12 @@ use Rattle.sound.proofs.tallies_add_up.Tie as tie
 returns : tie.Need-returns
 returns c =
     let a = c .before in
-    past-end (take (a .args .count) (a .args .guests)) (a .args .burned) (a .args .idle) (a .args .now) (search needs) (omega arith)
+    past-end (take (a .args .count) (a .args .guests)) (a .args .burned) (a .args .empty) (a .args .now) (search needs) (omega arith)
 
 returns-2 : tie.Need-returns-2
 returns-2 c =
     let a = c .before .before in
-    past-end (take (a .args .count) (a .args .guests)) (a .args .burned) (a .args .idle) (a .args .now) (search needs) (omega arith)
+    past-end (take (a .args .count) (a .args .guests)) (a .args .burned) (a .args .empty) (a .args .now) (search needs) (omega arith)
 
 tallies-small-requires : tie.Need-tallies-small-requires
 tallies-small-requires c κs = search needs
@@ -26,7 +26,7 @@ tallies-small-requires c κs = search needs
 returns-3 : tie.Need-returns-3
 returns-3 c =
     let a = c .before .before .before .before in
-    too-large (take (a .args .count) (a .args .guests)) (a .args .burned) (a .args .idle) (a .args .now) (search needs) (sym (c .before .tallies-small .ensures) ∙ not-true _ (c .if3 .taken))
+    too-large (take (a .args .count) (a .args .guests)) (a .args .burned) (a .args .empty) (a .args .now) (search needs) (sym (c .before .tallies-small .ensures) ∙ not-true _ (c .if3 .taken))
 
 tallies-of-requires : tie.Need-tallies-of-requires
 tallies-of-requires c κs = (search needs, sym (c .before .tallies-small .ensures) ∙ not-false _ (c .if3 .left))
@@ -40,7 +40,7 @@ add-result-2 c = search needs
 returns-4 : tie.Need-returns-4
 returns-4 c =
     let a = c .before .before .before .before .before in
-    ap (λ (k : ℕ). eqb (k + a .args .burned + a .args .idle) (a .args .now)) (c .tallies-of .ensures .0)
+    ap (λ (k : ℕ). eqb (k + a .args .burned + a .args .empty) (a .args .now)) (c .tallies-of .ensures .0)
 
 pub tallies-add-up-spec : {M : Type 1} → statement M
 tallies-add-up-spec = tie.close (tie.spec returns returns-2 tallies-small-requires returns-3 tallies-of-requires add-result add-result-2 returns-4)

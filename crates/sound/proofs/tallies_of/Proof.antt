@@ -5,7 +5,7 @@ use native.Mathlib.Omega.{arith}
 use Rattle.laws.proofs.Loops.{Summed, summed-start, summed-more, summed-end}
 use Rattle.rules.specs.Limits.{lastTick}
 use Rattle.rules.specs.Places.{noGuestPlace}
-use Rattle.sound.proofs.Testing.{small-own, small-lent}
+use Rattle.sound.proofs.Testing.{small-own, small-borrowed}
 use Rattle.sound.specs.Inner.{placeTallies}
 use borrow.Author.Needs.{needs}
 use Rattle.sound.proofs.tallies_of.Statement.{statement}
@@ -31,14 +31,14 @@ add-sum c =
     let l = c .before .before .before in
     let g = l .before .args .t1 in
     let n = l .before .args .count in
-    omega (arith, small-own g n (l .before .pre .1) (search needs) (l .loop .i) (search needs), small-lent g n (l .before .pre .1) (search needs) (l .loop .i) (search needs))
+    omega (arith, small-own g n (l .before .pre .1) (search needs) (l .loop .i) (search needs), small-borrowed g n (l .before .pre .1) (search needs) (l .loop .i) (search needs))
 
 add-sum-2 : tie.Need-add-sum-2 Inv-loop μ-loop
 add-sum-2 c =
     let l = c .before .before .before in
     let g = l .before .args .t1 in
     let n = l .before .args .count in
-    omega (arith, l .loop .inv .0, l .loop .inv .1, small-own g n (l .before .pre .1) (search needs) (l .loop .i) (search needs), small-lent g n (l .before .pre .1) (search needs) (l .loop .i) (search needs))
+    omega (arith, l .loop .inv .0, l .loop .inv .1, small-own g n (l .before .pre .1) (search needs) (l .loop .i) (search needs), small-borrowed g n (l .before .pre .1) (search needs) (l .loop .i) (search needs))
 
 add-i : tie.Need-add-i Inv-loop μ-loop
 add-i c = search needs
@@ -52,7 +52,7 @@ loop-again c =
     let g = l .before .args .t1 in
     let n = l .before .args .count in
     let o = small-own g n (l .before .pre .1) (search needs) (l .loop .i) (search needs) in
-    let t = small-lent g n (l .before .pre .1) (search needs) (l .loop .i) (search needs) in
+    let t = small-borrowed g n (l .before .pre .1) (search needs) (l .loop .i) (search needs) in
     (search needs, omega (arith, l .loop .inv .1, o, t), summed-more (l .loop .inv .2) noGuestPlace _ refl (search needs))
 
 returns : tie.Need-returns Inv-loop μ-loop

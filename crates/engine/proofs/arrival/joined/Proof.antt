@@ -8,7 +8,7 @@ add-jobs : tie.Need-add-jobs
 add-jobs c = search needs
 
 returns : tie.Need-returns
-returns c = λ e now. let g = c .before .args .g in joins e now (g .jobs) (g .left) (g .deadline) (g .own) (g .lent) (c .before .pre .0)
+returns c = λ e now. let g = c .before .args .g in joins e now (g .jobs) (g .current) (g .deadline) (g .own) (g .borrowed) (c .before .pre .0)
 
 pub joined-spec : {M : Type 1} → statement M
 joined-spec = tie.close (tie.spec add-jobs returns)

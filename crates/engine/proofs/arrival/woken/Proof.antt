@@ -16,7 +16,7 @@ returns : tie.Need-returns
 returns c =
     let e = c .before .before .args .e in
     let g = c .before .before .args .g in
-    ap {B = GuestPlace} (λ (d : ℕ). record { jobs = 1; left = e .budget; deadline = d + e .period; own = g .own; lent = g .lent }) (c .before .later .ensures)
+    ap {B = GuestPlace} (λ (d : ℕ). record { jobs = 1; current = e .budget; deadline = d + e .period; own = g .own; borrowed = g .borrowed }) (c .before .later .ensures)
 
 pub woken-spec : {M : Type 1} → statement M
 woken-spec = tie.close (tie.spec later-requires add-deadline returns)

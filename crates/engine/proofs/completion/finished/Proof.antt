@@ -11,13 +11,13 @@ returns : tie.Need-returns
 returns c = λ e.
     let a = c .before .before in
     let g = a .args .g in
-    goes-idle e (g .left) (g .deadline) (g .own) (g .lent) (g .jobs) (a .pre) (c .if1 .taken)
+    goes-idle e (g .current) (g .deadline) (g .own) (g .borrowed) (g .jobs) (a .pre) (c .if1 .taken)
 
 returns-2 : tie.Need-returns-2
 returns-2 c = λ e.
     let a = c .before .before in
     let g = a .args .g in
-    stays-active e (g .left) (g .deadline) (g .own) (g .lent) (g .jobs) (a .pre) (c .if1 .left)
+    stays-active e (g .current) (g .deadline) (g .own) (g .borrowed) (g .jobs) (a .pre) (c .if1 .left)
 
 pub finished-spec : {M : Type 1} → statement M
 finished-spec = tie.close (tie.spec sub-jobs returns returns-2)

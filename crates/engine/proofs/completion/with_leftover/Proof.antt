@@ -13,9 +13,9 @@ inside c = omega (arith, c .pre .0 .1, table-good (c .args .s) (c .pre .0 .0) .c
 
 -- it has a job left, its last
 active : (c : tie.Start) → 0 < placeAt (c .args .s) (c .args .i) .jobs
-active c = let g = placeAt (c .args .s) (c .args .i) in leaving-active (g .jobs) (g .left) (c .pre .1)
+active c = let g = placeAt (c .args .s) (c .args .i) in leaving-active (g .jobs) (g .current) (c .pre .1)
 
-room : (c : tie.Start) → c .args .s .count < sparePlaces
+room : (c : tie.Start) → c .args .s .listed < sparePlaces
 room c = spare-fits (c .args .s) (c .pre .0 .0) (c .args .i) (c .pre .0 .1) (active c)
 
 mul-g : tie.Need-mul-g
@@ -29,8 +29,8 @@ inserted-requires c κs =
     let a = c .before .before .before in
     (room a, spares-unused (a .args .s) (a .pre .0 .0))
 
-add-count : tie.Need-add-count
-add-count c = omega (arith, room (c .before .before .before .before .before))
+add-listed : tie.Need-add-listed
+add-listed c = omega (arith, room (c .before .before .before .before .before))
 
 finished-requires : tie.Need-finished-requires
 finished-requires c κs = active (c .before .before .before .before .before)
@@ -53,7 +53,7 @@ with-leftover-spec =
     mul-g
     array-copy-out-g
     inserted-requires
-    add-count
+    add-listed
     finished-requires
     mul-guests
     array-set-from-guests

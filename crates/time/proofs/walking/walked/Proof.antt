@@ -63,7 +63,7 @@ module _ (c : tie.After-loop Inv-loop μ-loop) where
   gone : Walking (first .args .s) (first .args .k) from-first (c .before .loop .dues) (c .before .loop .guests) (c .before .loop .spares) (c .before .loop .lines) (c .before .loop .h) (c .before .loop .count) false
   gone = subst (λ (more : Bool). Walking (first .args .s) (first .args .k) from-first (c .before .loop .dues) (c .before .loop .guests) (c .before .loop .spares) (c .before .loop .lines) (c .before .loop .h) (c .before .loop .count) more) (c .loop-test .left) (c .before .loop .inv .3)
 
-  heads : (c .before .loop .h .head ≤ first .args .s .count) × (first .args .s .count ≤ sparePlaces)
+  heads : (c .before .loop .h .head ≤ first .args .s .listed) × (first .args .s .listed ≤ sparePlaces)
   heads = last-head (first .args .s) (first .args .k) from-first (first .pre .0) (first .pre .1) gone
 
 begun-requires : tie.Need-begun-requires Inv-loop μ-loop
