@@ -21,7 +21,7 @@ bench:
 	@bench/program
 
 wrong:
-	@rt check answers schedule
+	@rt check test_answers schedule
 	@rt staticlib boot
 	@tools/wrong_copies
 

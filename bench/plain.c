@@ -1,4 +1,4 @@
-/* The engine's job in plain C, without proofs: what crates/measure is measured against. Same input, same checksum. */
+/* The engine's job in plain C, without proofs: what crates/bench_measure is measured against. Same input, same checksum. */
 #include <inttypes.h>
 #include <stdbool.h>
 #include <stdint.h>
@@ -333,7 +333,7 @@ static enum answer advance(struct state *s, uint64_t k)
     return WENT;
 }
 
-/* ---- the state that a call is measured on, as crates/measure/src/setting.rt makes it */
+/* ---- the state that a call is measured on, as crates/bench_measure/src/setting.rt makes it */
 
 enum { FRAME = 240, BUDGET = 4, MOST_SPARES = 63 };
 

@@ -1,7 +1,7 @@
 //! Compares libboot.a with the second implementation on images made from a seed. No argument: all images;
 //! `few`: some two thousand, for valgrind; `write DIR`: no comparison, the sample images are written to DIR;
 //! `scripts WORD...`: no images, the listings of scripts by the program that the words start are compared instead;
-//! `states WORD...`: every call of the library on any state, as the program `answers` that the words start tells it. For inputs that a fuzzer has found:
+//! `states WORD...`: every call of the library on any state, as the program `test_answers` that the words start tells it. For inputs that a fuzzer has found:
 //! `replay PROGRAM PLAIN FOLDER...` holds two programs to the second implementation on the folders' scripts, and
 //! `images PLAIN FOLDER...` the archive and a program on their images; `seeds DIR` writes images for it to start with.
 

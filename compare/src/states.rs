@@ -1,4 +1,4 @@
-//! Compares the program `answers` with the second implementation on calls on any state, any table and any image: every number that comes
+//! Compares the program `test_answers` with the second implementation on calls on any state, any table and any image: every number that comes
 //! back. Known answers come first, then batches made from a seed.
 
 mod batch;

@@ -53,7 +53,7 @@ impl Request {
         }
     }
 
-    /// As crates/answers/src/wire.rt reads it.
+    /// As crates/test_answers/src/wire.rt reads it.
     pub fn write(&self, input: &mut Vec<u8>) {
         let mut numbers = |values: &[u64]| {
             values

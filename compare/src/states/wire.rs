@@ -1,4 +1,4 @@
-//! Requests and answers as crates/answers/src/wire.rt has them: every number is told with its name, to a list of bytes that is compared or to a
+//! Requests and answers as crates/test_answers/src/wire.rt has them: every number is told with its name, to a list of bytes that is compared or to a
 //! list that a reader understands.
 
 use std::fmt;

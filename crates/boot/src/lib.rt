@@ -8,5 +8,5 @@ pub extern "C" fn lomvadric_check_image(image: &[u8]) -> u32
 {
     let l = image::read(image);
     let answer = l.answer;
-    numbers::number_of(answer)
+    answer_number::number_of(answer)
 }

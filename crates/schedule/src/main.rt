@@ -1,56 +1,56 @@
 // The program: commands from standard input, and their schedule on standard output.
 ghost use Prim.Native.Nat.{_≤_};
 ghost use lib.ListN.{length};
-ghost use Rattle.listing.specs.Stepping.{stepRoom};
+ghost use Rattle.program_listing.specs.Turning.{turnRoom};
 ghost use Rattle.schedule.specs.Contracts.{Filled};
 use libc::STDIN_FILENO;
 use libc::STDOUT_FILENO;
-use listing::Held;
-use listing::MOST_INPUT;
-use listing::Stepped;
-use stepping::STEP_ROOM;
+use program_listing::Held;
+use program_listing::MOST_INPUT;
+use program_listing::Turned;
+use program_turn::TURN_ROOM;
 
 // One byte more than the program takes, so that too much input is seen.
 const INPUT_PLACES: usize = MOST_INPUT + 1;
 
-// Step after step, until the buffer has no room for another one or no more is to come.
-fn fill(input: &[u8], from: Held, buffer: &mut [u8]) -> Stepped
-    requires { ⌜ stepRoom ≤ length (now buffer) ⌝ }
+// Turn after turn, until the buffer has no room for another one or no more is to come.
+fn fill(input: &[u8], from: Held, buffer: &mut [u8]) -> Turned
+    requires { ⌜ turnRoom ≤ length (now buffer) ⌝ }
     ensures { λ r. ⌜ Filled (now (input .entry)) from (now (buffer .exit)) r ⌝ }
 {
     let mut held = from;
     let mut filled: usize = 0;
     let first = from.stage;
-    let mut going = steps::is_going(first);
+    let mut going = program_turns::is_going(first);
     while going {
-        let stepped = stepping::step(input, held, buffer, filled);
-        let next = stepped.held;
+        let turned = program_turn::turn(input, held, buffer, filled);
+        let next = turned.held;
         held = next;
-        filled = stepped.filled;
+        filled = turned.filled;
         let stage = next.stage;
-        let more = steps::is_going(stage);
-        let room = lines::has_room(buffer.len(), filled, STEP_ROOM);
+        let more = program_turns::is_going(stage);
+        let room = program_lines::has_room(buffer.len(), filled, TURN_ROOM);
         going = more & room;
     }
-    Stepped { held, filled }
+    Turned { held, filled }
 }
 
 // Each full buffer is written whole, and a write that fails ends the program.
 fn run(input: &[u8], buffer: &mut [u8])
-    requires { ⌜ stepRoom ≤ length (now buffer) ⌝ }
+    requires { ⌜ turnRoom ≤ length (now buffer) ⌝ }
 {
-    let mut held = steps::begin();
+    let mut held = program_turns::begin();
     let mut going = true;
     while going {
-        let stepped = fill(input, held, buffer);
-        let filled = stepped.filled;
+        let turned = fill(input, held, buffer);
+        let filled = turned.filled;
         if !io::write_all(STDOUT_FILENO, &buffer[..filled]) {
             return;
         }
-        let next = stepped.held;
+        let next = turned.held;
         held = next;
         let stage = next.stage;
-        going = steps::is_going(stage);
+        going = program_turns::is_going(stage);
     }
 }
 

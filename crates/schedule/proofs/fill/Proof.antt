@@ -1,6 +1,6 @@
--- `schedule::fill` meets its contract: at each turn so many steps were made, and their bytes stand at the buffer's front.
+-- `schedule::fill` meets its contract: at each turn so many turns were made, and their bytes stand at the buffer's front.
 use denote.Ref.{now}
-use Rattle.listing.specs.Stepping.{toGo}
+use Rattle.program_listing.specs.Turning.{toGo}
 use Rattle.schedule.proofs.Looping.{Filling, filling-start, filling-end, filling-less, filling-more}
 use borrow.Author.Needs.{needs}
 use Rattle.schedule.proofs.fill.Statement.{statement}
@@ -20,8 +20,8 @@ loop-holds c =
     let a = c .before .before .before in
     filling-start (now (a .args .input)) (now (a .args .buffer)) (a .args .from) (search needs) (c .is-going .ensures)
 
-step-requires : tie.Need-step-requires Inv-loop μ-loop
-step-requires c κs = search needs
+turn-requires : tie.Need-turn-requires Inv-loop μ-loop
+turn-requires c κs = search needs
 
 is-going-requires-2 : tie.Need-is-going-requires-2 Inv-loop μ-loop
 is-going-requires-2 c κs = search needs
@@ -31,15 +31,15 @@ has-room-requires c κs = search needs
 
 loop-less : tie.Need-loop-less Inv-loop μ-loop
 loop-less c =
-    let step = c .before .before .before .before .before in
-    let l = step .before .before in
-    filling-less (l .before .loop .inv) (l .loop-test .taken) (step .step .ensures)
+    let turn = c .before .before .before .before .before in
+    let l = turn .before .before in
+    filling-less (l .before .loop .inv) (l .loop-test .taken) (turn .turn .ensures)
 
 loop-again : tie.Need-loop-again Inv-loop μ-loop
 loop-again c =
-    let step = c .before .before .before .before .before in
-    let l = step .before .before in
-    filling-more (l .before .loop .inv) (l .loop-test .taken) (step .step .ensures) (c .before .is-going2 .ensures) (c .has-room .ensures)
+    let turn = c .before .before .before .before .before in
+    let l = turn .before .before in
+    filling-more (l .before .loop .inv) (l .loop-test .taken) (turn .turn .ensures) (c .before .is-going2 .ensures) (c .has-room .ensures)
 
 same-length : tie.Need-same-length Inv-loop μ-loop
 same-length c = c .before .loop .inv .long
@@ -55,7 +55,7 @@ fill-spec =
     μ-loop
     is-going-requires
     loop-holds
-    step-requires
+    turn-requires
     is-going-requires-2
     has-room-requires
     loop-less

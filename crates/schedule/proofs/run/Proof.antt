@@ -3,7 +3,7 @@ use mathlib.Core.Path.{sym, _∙_}
 use native.Mathlib.Omega.{arith}
 use lib.Seq.{length-take-le}
 use denote.Ref.{now}
-use Rattle.listing.specs.Stepping.{toGo}
+use Rattle.program_listing.specs.Turning.{toGo}
 use Rattle.schedule.proofs.Looping.{Running, running-start}
 use borrow.Author.Needs.{needs}
 use Rattle.schedule.proofs.run.Statement.{statement}

@@ -1,0 +1,2 @@
+-- Laws of what an image reads as.
+pub mod Reading

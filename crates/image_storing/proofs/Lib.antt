@@ -1,0 +1,2 @@
+-- Laws of what is stored.
+pub mod Storing

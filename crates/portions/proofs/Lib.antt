@@ -1,3 +1,0 @@
--- Laws of one portion.
-pub mod Charging
-pub mod Unique

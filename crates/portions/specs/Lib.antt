@@ -1,2 +1,0 @@
--- What one portion is and charges.
-pub mod Contracts

@@ -1,0 +1,3 @@
+-- The rows of the listing and of the turns, and that the contracts allow one outcome.
+pub mod Computed
+pub mod Unique

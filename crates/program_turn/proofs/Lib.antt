@@ -1,0 +1,3 @@
+-- Laws of the parts of a turn, and of its cases.
+pub mod Doing
+pub mod Choosing

@@ -1,3 +1,0 @@
--- Laws of the parts of a step, and of its cases.
-pub mod Doing
-pub mod Choosing

@@ -1,2 +1,0 @@
--- The contracts of the functions that a step is made of.
-pub mod Inner
