@@ -1,4 +1,4 @@
--- Deadlines as plain numbers: how they are filled in, and that they decide as the guests do.
+-- Deadlines as plain numbers decide as the guests do.
 use mathlib.Core.Path.{_≡_, refl, _∙_}
 use mathlib.Core.Bool.{not, cond, _&&_, _||_}
 use mathlib.Core.List.{List, [], _∷_, _++_, map, map-append, append-nil}
@@ -20,32 +20,6 @@ use Rattle.rules.specs.Places.{noGuestPlace}
 use Rattle.rules.specs.Steps.{earliest}
 use Rattle.engine_time.proofs.Searching.{lowest-first}
 use Rattle.engine_time.specs.Inner.{never, dueAt, AllDue, Mirrors}
-
--- ---- filled in
-
--- the first i are there, and `never` behind them
-pub record Filling (gs : List GuestPlace) (i : ℕ) (ds : List ℕ) : Type 0 where
-  pub so : ds ≡ padded guestPlaces never (map dueAt (take i gs))
-
-pub filling-start : (gs : List GuestPlace) → Filling gs 0 (replicate guestPlaces never)
-filling-start gs = record { so = refl }
-
-module _ {gs : List GuestPlace} {i : ℕ} {ds : List ℕ} (f : Filling gs i ds) (long : length gs ≡ guestPlaces) where
-  pub filling-more : {d : ℕ} → d ≡ dueAt (getD gs i noGuestPlace) → i < guestPlaces → Filling gs (i + 1) (set ds i d)
-  filling-more {d} e h =
-      let front = map dueAt (take i gs) in
-      let more : map dueAt (take (i + 1) gs) ≡ front ++ (d ∷ []) = rw (add-one i, take-suc gs i noGuestPlace (omega arith), map-append, e) in
-      record {
-        so = rw (more, f .so) (set-padded guestPlaces never i front d (length-map (take i gs) dueAt ∙ length-take-le i gs (omega arith)) h);
-      }
-
-  pub filling-end : guestPlaces ≤ i → ds ≡ map dueAt gs
-  filling-end h =
-      let all : take i gs ≡ gs = take-all i gs (omega arith) in
-      let none : guestPlaces - length (map dueAt gs) ≡ 0 = omega (arith, length-map gs dueAt) in
-      f .so ∙ rw (all, none) (append-nil (map dueAt gs))
-
--- ---- they decide
 
 due-beats : (b g : GuestPlace) (m n : ℕ) → b .deadline < never → g .deadline < never
     → ltb (cond (eqb n 0) never (g .deadline)) (cond (eqb m 0) never (b .deadline)) ≡ not (eqb n 0) && (eqb m 0 || ltb (g .deadline) (b .deadline))

@@ -2,19 +2,20 @@
 use Prim.Native.Nat.{_≤_, _-_}
 use Rattle.laws.proofs.Places.{length-mapped}
 use Rattle.rules.specs.Limits.{guestPlaces}
-use Rattle.engine_time.proofs.Mirroring.{Filling, filling-start, filling-more, filling-end}
+use Rattle.laws.proofs.Filling.{Filling, filling-start, filling-more, filling-end}
+use Rattle.engine_time.specs.Inner.{never, dueAt}
 use borrow.Author.Needs.{needs}
 use Rattle.engine_time.proofs.dues.dues_of.Statement.{statement}
 use Rattle.engine_time.proofs.dues.dues_of.Tie as tie
 
 abbrev Inv-loop : tie.InvT-loop
-Inv-loop guests dues₀ i₀ dues i = (i ≤ guestPlaces) × Filling guests i dues
+Inv-loop guests dues₀ i₀ dues i = (i ≤ guestPlaces) × Filling dueAt guestPlaces never guests i dues
 
 abbrev μ-loop : tie.MeasureT-loop
 μ-loop guests dues₀ i₀ dues i = guestPlaces - i
 
 loop-holds : tie.Need-loop-holds Inv-loop μ-loop
-loop-holds c = (search needs, filling-start _)
+loop-holds c = (search needs, filling-start dueAt guestPlaces never _)
 
 mul-g : tie.Need-mul-g Inv-loop μ-loop
 mul-g c = search needs
@@ -38,10 +39,10 @@ loop-less : tie.Need-loop-less Inv-loop μ-loop
 loop-less c = search needs
 
 loop-again : tie.Need-loop-again Inv-loop μ-loop
-loop-again c = (search needs, filling-more (c .before .before .before .loop .inv .1) (search (needs, length-mapped)) (c .due-of .ensures) (search needs))
+loop-again c = (search needs, filling-more dueAt guestPlaces never (c .before .before .before .loop .inv .1) (search (needs, length-mapped)) _ (c .due-of .ensures) (search needs))
 
 returns : tie.Need-returns Inv-loop μ-loop
-returns c = filling-end (c .before .loop .inv .1) (search (needs, length-mapped)) (search needs)
+returns c = filling-end dueAt guestPlaces never (c .before .loop .inv .1) (search (needs, length-mapped)) (search needs)
 
 pub dues-of-spec : {M : Type 1} → statement M
 dues-of-spec =
