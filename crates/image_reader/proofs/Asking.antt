@@ -1,6 +1,6 @@
 -- `image_reader::reader::word` and `image_reader::reader::half` are one function but for the callee that they ask, `word_at` or `half_at`:
--- the walk of its MIR, by hand, over the callee's name and the number's width.
--- The struct is taken apart, and the callee is called on the slice and the number. All that the walk knows of the callee is that it meets its contract.
+-- its MIR, by hand, over the callee's name and the number's width.
+-- The struct is taken apart, and the callee is called on the slice and the number. All that is known of the callee is that it meets its contract.
 -- The struct is Copy: what it owns is had twice, one copy is kept whole for the exit, and of the other what image owns goes to the callee,
 -- beside the lifetime's token, which comes back.
 -- The signatures are `word`'s and `word_at`'s, which are `half`'s and `half_at`'s too. Assumes nothing.
@@ -39,7 +39,7 @@ use denote.Triple.Clauses.{closing, lasts}
 use Rattle.image_reader.specs.declared.reader.Reader.{Reader}
 use Rattle.image_reader.specs.Contracts.{NumberRead}
 use Rattle.image_reader.proofs.Locals.{allocates, copies, leaves}
-use Rattle.image_reader.proofs.Walks.{stated, Stated, walk-spec, Number, B, Has, reader-vals, reader-tells, passed, valueOf, fields, token, lends, hears}
+use Rattle.image_reader.proofs.ByHand.{stated, Stated, by-hand-spec, Number, B, Has, reader-vals, reader-tells, passed, valueOf, fields, token, lends, hears}
 use Rattle.image_reader.proofs.reader.Reader.Laws as T′
 use Rattle.image_reader.proofs.word_at as callee
 use Rattle.image_reader.proofs.reader.word as asker
@@ -69,7 +69,7 @@ module _ (width : ℕ) where
   Said κs a = Number width (a .0)
 
   module _ {M : Type 1} (𝓤 : URA M) (H : Heap 𝓤) (A : Atoms 𝓤) where
-    -- the contract that the walk cites
+    -- the contract that is cited
     abbrev Callee : Contract 𝓤
     Callee = Stated 𝓤 callee.ended (λ κs a. NumberRead width (now (a .0)) (a .1 .0)) H A
 
@@ -94,9 +94,9 @@ module _ (width : ℕ) where
         says ! e $ move ! (1 ∷ []) $ frame ! $ nothing ! $ move ! (2 ∷ 0 ∷ []) $ fjoin ! $ frame ! $ done !
 
     module _ (k : Name) (C : Calls 𝓤 H) (Λ : Loops 𝓤 H) (fm : FmC 𝓤 H (W .laws) C) (known : Triple 𝓤 (C k) (Callee 𝓤 H A)) where
-      walk : Holds (hasTy (T′.mir (named 0)) mach) × WT mach
+      through : Holds (hasTy (T′.mir (named 0)) mach) × WT mach
           → ent 𝓤 (onEntry 𝓤 H A asker.signature (κ, tt) (q, tt) (d, tt) (mach ∷ [], tt)) (WpFn 𝓤 H C Λ (asking k) (mach ∷ []) Post)
-      walk wt =
+      through wt =
           qed W (raw (onEntry 𝓤 H A asker.signature (κ, tt) (q, tt) (d, tt) (mach ∷ [], tt)) ∷ []) ∵ enter ! C Λ (asking k) (mach ∷ []) _ $
           allocates ! (λ bs. params1 ! $ pass1 ! (init ! 3 refl wt) $ pass0 ! $
           -- [what is owned at entry; _0; …]
@@ -119,7 +119,7 @@ module _ (width : ℕ) where
         → Triple 𝓤 (𝓡 .run r) (Callee 𝓤 H (𝓖 .A)) → Meets 𝓤 H (𝓖 .A) asker.signature (𝓡 .run (γ f)) (closing 𝓤 H (𝓖 .A) asker.ended (stated 𝓤 asker.ended Said))
     asks-spec unfolded calls met =
         let W = givenOf 𝓤 H 𝓜 𝓖 in
-        walk-spec 𝓤 H 𝓜 𝓖 𝓡 γ f (asking k) asker.ended stayed Said unfolded
+        by-hand-spec 𝓤 H 𝓜 𝓖 𝓡 γ f (asking k) asker.ended stayed Said unfolded
         (goes-none 𝓤 H (𝓖 .A) W 1 B yes (λ κs x f. refl), tt) (λ κs. (reader-vals κs, tt)) (λ κs. (reader-tells κs, tt))
-        (λ fm κs qs bounds a are. walk 𝓤 H (𝓖 .A) W (κs .0) (qs .0) (a .0) k (tables 𝓤 H 𝓜 𝓡 γ .C) (tables 𝓤 H 𝓜 𝓡 γ .Λ) fm
+        (λ fm κs qs bounds a are. through 𝓤 H (𝓖 .A) W (κs .0) (qs .0) (a .0) k (tables 𝓤 H 𝓜 𝓡 γ .C) (tables 𝓤 H 𝓜 𝓡 γ .Λ) fm
         (cited 𝓤 H (Callee 𝓤 H (𝓖 .A)) 𝓜 𝓡 γ k r calls met) (passed W κs (a .0) _ (are .0)))

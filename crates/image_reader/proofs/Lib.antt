@@ -1,8 +1,8 @@
--- Laws of numbers in bytes, and the steps of the walks over a reader.
+-- Laws of numbers in bytes, and what the proofs by hand over a reader are made of.
 pub mod Asking
 pub mod Held
 pub mod Laws
 pub mod Locals
 pub mod Moving
 pub mod Unique
-pub mod Walks
+pub mod ByHand

@@ -1,4 +1,4 @@
--- A function's locals in a walk by hand: they are allocated at once, and freed at once.
+-- A function's locals in a proof by hand: they are allocated at once, and freed at once.
 -- They stand behind all else in the order of their numbers, each with its cell and the right to free it, so where one stands is computed from its number.
 -- Assumes `Given`, for the calculus alone.
 use mathlib.Core.Path.{_≡_, ap, refl, subst, sym}

@@ -30,8 +30,8 @@ use Rattle.image_reader.specs.Contracts.{numberAt, behindOf, NumberRead}
 use Rattle.image_reader.specs.declared.reader.Reader.{Reader}
 use Rattle.image_reader.proofs.Laws.{behind-in}
 use Rattle.image_reader.proofs.Locals.{cell, room, at, with, copies, fitting, lands-number}
-use Rattle.image_reader.proofs.Walks.{Stated, At, Number, Moved, B, Has, token, held, valueOf, Own, slice-twice, joins-number}
-use Rattle.image_reader.proofs.Walks.{enters, passes-copy, passes-number, hears}
+use Rattle.image_reader.proofs.ByHand.{Stated, At, Number, Moved, B, Has, token, held, valueOf, Own, slice-twice, joins-number}
+use Rattle.image_reader.proofs.ByHand.{enters, passes-copy, passes-number, hears}
 use Rattle.image_reader.proofs.reader.Reader.Laws as T′
 use Rattle.image_reader.proofs.reader.open as opened
 use Rattle.image_reader.proofs.reader.open.Symbol as opened-def

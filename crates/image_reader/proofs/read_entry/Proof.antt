@@ -1,4 +1,4 @@
--- `image_reader::read_entry` meets its contract: a walk of its MIR, by hand, each number by the same law.
+-- `image_reader::read_entry` meets its contract: its MIR, by hand, each number by the same law.
 -- A reader is opened at the entry's place, Q is read, the reader is moved on behind it, and T is read.
 -- All that the proof knows of the functions called is that they meet their contracts. What part owns is kept for the exit. Assumes nothing.
 use mathlib.Core.Path.{refl}
@@ -33,7 +33,7 @@ use Rattle.image_reader.specs.Contracts.{EntryRead}
 use Rattle.image_reader.specs.declared.reader.Reader.{Reader}
 use Rattle.image_reader.specs.declared.Pair.{Pair}
 use Rattle.image_reader.proofs.Locals.{allocates, copies, leaves}
-use Rattle.image_reader.proofs.Walks.{stated, walk-spec, At, Number, Moved, token, valueOf, Own, joins-number}
+use Rattle.image_reader.proofs.ByHand.{stated, by-hand-spec, At, Number, Moved, token, valueOf, Own, joins-number}
 use Rattle.image_reader.proofs.Moving.{Known, known, number, moved-on, opens, reads, moves}
 use Rattle.image_reader.proofs.Pair as R
 use Rattle.image_reader.proofs.Pair.Laws as R′
@@ -76,9 +76,9 @@ module _ {M : Type 1} (𝓤 : URA M) (H : Heap 𝓤) (A : Atoms 𝓤) (W : Given
       nothing ! $ joins-number ! (e .period) f₂ $ joins-number ! (e .budget) f₁ $ by ! (own-shut 𝓤 H A W R.the-type R′.the-laws (e .budget, (e .period, tt)))
 
   module _ (C : Calls 𝓤 H) (Λ : Loops 𝓤 H) (fm : FmC 𝓤 H (W .laws) C) (knows : Known 𝓤 H A C) where
-    walk : Is (ShrSlice (named 0) κ u8) s (v ∷ [])
+    through : Is (ShrSlice (named 0) κ u8) s (v ∷ [])
         → ent 𝓤 (onEntry 𝓤 H A signature (κ, tt) (q, tt) (s, (n, tt)) at) (WpFn 𝓤 H C Λ code.function (v ∷ vint w64 n ∷ []) Post)
-    walk is =
+    through is =
         qed W (token 𝓤 κ q ∷ ‵ (owns (ShrSlice (named 0) κ u8 ∷ usize ∷ []) (s, (n, tt)) at) ∷ []) ∵ enter ! C Λ code.function (v ∷ vint w64 n ∷ []) _ $
         allocates ! (λ bs. params1 ! $ pass1 ! (init ! 4 refl (shr-slice-lawful 𝓤 H A W (named 0) κ u8 .typed s (v ∷ []) is .0)) $
         pass1 ! (init ! 6 refl (tt, record { fits = fits })) $ pass0 ! $ move ! (1 ∷ []) $ fsplit ! $ move ! (1 ∷ []) $ drop ! $ move ! (1 ∷ 0 ∷ []) $
@@ -98,8 +98,8 @@ pub read-entry-spec : {M : Type 1} → statement M
 unfolding code.routine
 read-entry-spec 𝓤 H 𝓜 𝓖 𝓡 =
     let W = givenOf 𝓤 H 𝓜 𝓖 in
-    walk-spec 𝓤 H 𝓜 𝓖 𝓡 code.env name code.function ended stayed Said (code.unfolded 𝓤 H 𝓜 𝓡)
+    by-hand-spec 𝓤 H 𝓜 𝓖 𝓡 code.env name code.function ended stayed Said (code.unfolded 𝓤 H 𝓜 𝓡)
     (goes-none-slice 𝓤 H (𝓖 .A) W 1 (0 ∷ []) tt (plain (λ _. u8)) yes, (goes-none 𝓤 H (𝓖 .A) W 1 (λ _. usize) yes (λ κs x f. refl), tt))
     (λ κs. (slice-vals, (uint-vals w64, tt))) (λ κs. (shr-slice-tells (named 0) (κs .0) u8, (uint-tells w64, tt)))
-    (λ fm κs qs bounds a are. walk 𝓤 H (𝓖 .A) W (κs .0) (qs .0) (a .0) (a .1 .0) (are .1 .0 .1) (tables 𝓤 H 𝓜 𝓡 code.env .C) (tables 𝓤 H 𝓜 𝓡 code.env .Λ) fm
+    (λ fm κs qs bounds a are. through 𝓤 H (𝓖 .A) W (κs .0) (qs .0) (a .0) (a .1 .0) (are .1 .0 .1) (tables 𝓤 H 𝓜 𝓡 code.env .C) (tables 𝓤 H 𝓜 𝓡 code.env .Λ) fm
     (known 𝓤 H 𝓜 𝓖 𝓡 code.env code.calls-image-reader·reader·open code.calls-image-reader·reader·word code.calls-image-reader·reader·past) (are .0))

@@ -1,4 +1,4 @@
--- `image_reader::read_trailer` meets its contract: a walk of its MIR, by hand, each number by the same law.
+-- `image_reader::read_trailer` meets its contract: its MIR, by hand, each number by the same law.
 -- A reader is opened at the trailer's place; a number is read, and the reader moved on behind it, until all four are read.
 -- All that the proof knows of the functions called is that they meet their contracts. What image owns is kept for the exit. Assumes nothing.
 use mathlib.Core.Path.{_≡_, refl, _∙_}
@@ -38,7 +38,7 @@ use Rattle.image_reader.specs.Contracts.{TrailerRead}
 use Rattle.image_reader.specs.declared.reader.Reader.{Reader}
 use Rattle.image_reader.specs.declared.Trailer.{Trailer}
 use Rattle.image_reader.proofs.Locals.{allocates, copies, lands-number, leaves}
-use Rattle.image_reader.proofs.Walks.{stated, Stated, walk-spec, At, Number, Moved, token, valueOf, Own, slice-twice, joins-number, enters, hears}
+use Rattle.image_reader.proofs.ByHand.{stated, Stated, by-hand-spec, At, Number, Moved, token, valueOf, Own, slice-twice, joins-number, enters, hears}
 use Rattle.image_reader.proofs.Moving.{Asked, Known, known, number, moved, opens, reads, moves}
 use Rattle.image_reader.proofs.Trailer as R
 use Rattle.image_reader.proofs.Trailer.Laws as R′
@@ -106,9 +106,9 @@ module _ {M : Type 1} (𝓤 : URA M) (H : Heap 𝓤) (A : Atoms 𝓤) (W : Given
 
   module _ (C : Calls 𝓤 H) (Λ : Loops 𝓤 H) (fm : FmC 𝓤 H (W .laws) C) (placed : Triple 𝓤 (C place-def.name) (Place 𝓤 H A))
       (knows : Known 𝓤 H A C) (halved : Triple 𝓤 (C half-def.name) (Asked 𝓤 H A 2)) where
-    walk : Is (ShrSlice (named 0) κ u8) s (v ∷ [])
+    through : Is (ShrSlice (named 0) κ u8) s (v ∷ [])
         → ent 𝓤 (onEntry 𝓤 H A signature (κ, tt) (q, tt) (s, tt) (v ∷ [], tt)) (WpFn 𝓤 H C Λ code.function (v ∷ []) Post)
-    walk is =
+    through is =
         qed W (token 𝓤 κ q ∷ ‵ (owns (ShrSlice (named 0) κ u8 ∷ []) (s, tt) (v ∷ [], tt)) ∷ []) ∵ enter ! C Λ code.function (v ∷ []) _ $
         allocates ! (λ bs. params1 ! $ pass1 ! (init ! 4 refl (shr-slice-lawful 𝓤 H A W (named 0) κ u8 .typed s (v ∷ []) is .0)) $ pass0 ! $
         -- the place; [the token; what s owns; _0; …]
@@ -134,10 +134,10 @@ pub read-trailer-spec : {M : Type 1} → statement M
 unfolding code.routine
 read-trailer-spec 𝓤 H 𝓜 𝓖 𝓡 =
     let W = givenOf 𝓤 H 𝓜 𝓖 in
-    walk-spec 𝓤 H 𝓜 𝓖 𝓡 code.env name code.function ended stayed Said (code.unfolded 𝓤 H 𝓜 𝓡)
+    by-hand-spec 𝓤 H 𝓜 𝓖 𝓡 code.env name code.function ended stayed Said (code.unfolded 𝓤 H 𝓜 𝓡)
     (goes-none-slice 𝓤 H (𝓖 .A) W 1 (0 ∷ []) tt (plain (λ _. u8)) yes, tt)
     (λ κs. (slice-vals, tt)) (λ κs. (shr-slice-tells (named 0) (κs .0) u8, tt))
-    (λ fm κs qs bounds a are. walk 𝓤 H (𝓖 .A) W (κs .0) (qs .0) (a .0) (tables 𝓤 H 𝓜 𝓡 code.env .C) (tables 𝓤 H 𝓜 𝓡 code.env .Λ) fm
+    (λ fm κs qs bounds a are. through 𝓤 H (𝓖 .A) W (κs .0) (qs .0) (a .0) (tables 𝓤 H 𝓜 𝓡 code.env .C) (tables 𝓤 H 𝓜 𝓡 code.env .Λ) fm
     (cited 𝓤 H (Place 𝓤 H (𝓖 .A)) 𝓜 𝓡 code.env place-def.name place-def.routine code.calls-image-reader·reader·trailer-place (place-thm.met 𝓤 H 𝓜 𝓖 𝓡))
     (known 𝓤 H 𝓜 𝓖 𝓡 code.env code.calls-image-reader·reader·open code.calls-image-reader·reader·word code.calls-image-reader·reader·past)
     (cited 𝓤 H (Asked 𝓤 H (𝓖 .A) 2) 𝓜 𝓡 code.env half-def.name half-def.routine code.calls-image-reader·reader·half (half-thm.met 𝓤 H 𝓜 𝓖 𝓡)) (are .0))

@@ -1,4 +1,4 @@
--- `image_reader::reader::open` meets its contract: a walk of its MIR, by hand. A `Reader` is made of the slice and the number passed, in the result's local.
+-- `image_reader::reader::open` meets its contract: its MIR, by hand. A `Reader` is made of the slice and the number passed, in the result's local.
 -- A `&[u8]` is Copy, so what it owns is had twice: once for image at exit, and once inside the result, beside the facts of at.
 -- Assumes nothing.
 use mathlib.Core.Path.{refl}
@@ -30,7 +30,7 @@ use denote.Triple.Walked.{says, Stays, stay-none, stay-none-slice, walkOf, goes-
 use denote.Exit.{yes}
 use Rattle.image_reader.specs.declared.reader.Reader.{Reader}
 use Rattle.image_reader.proofs.Locals.{allocates, copies, leaves}
-use Rattle.image_reader.proofs.Walks.{stated, walk-spec, At, token, valueOf, slice-twice, joins-number}
+use Rattle.image_reader.proofs.ByHand.{stated, by-hand-spec, At, token, valueOf, slice-twice, joins-number}
 use Rattle.image_reader.proofs.reader.Reader as T
 use Rattle.image_reader.proofs.reader.Reader.Laws as T′
 use Rattle.image_reader.proofs.reader.open.Key.{name}
@@ -71,9 +71,9 @@ module _ {M : Type 1} (𝓤 : URA M) (H : Heap 𝓤) (A : Atoms 𝓤) (W : Given
       by ! (own-shut 𝓤 H A W (T.the-type (namedLft 1 0 tt (κ, tt))) (T′.the-laws (namedLft 1 0 tt (κ, tt))) (s, (n, tt)))
 
   module _ (C : Calls 𝓤 H) (Λ : Loops 𝓤 H) where
-    walk : Is (ShrSlice (named 0) κ u8) s (v ∷ [])
+    through : Is (ShrSlice (named 0) κ u8) s (v ∷ [])
         → ent 𝓤 (onEntry 𝓤 H A signature (κ, tt) (q, tt) (s, (n, tt)) at) (WpFn 𝓤 H C Λ code.function (v ∷ vint w64 n ∷ []) Post)
-    walk is =
+    through is =
         let typed = shr-slice-lawful 𝓤 H A W (named 0) κ u8 .typed s (v ∷ []) is .0 in
         qed W (token 𝓤 κ q ∷ ‵ (owns (ShrSlice (named 0) κ u8 ∷ usize ∷ []) (s, (n, tt)) at) ∷ []) ∵ enter ! C Λ code.function (v ∷ vint w64 n ∷ []) _ $
         allocates ! (λ bs. params1 ! $ pass1 ! (init ! 4 refl typed) $ pass1 ! (init ! 6 refl (tt, record { fits = fits })) $ pass0 ! $
@@ -87,8 +87,8 @@ pub open-spec : {M : Type 1} → statement M
 unfolding code.routine
 open-spec 𝓤 H 𝓜 𝓖 𝓡 =
     let W = givenOf 𝓤 H 𝓜 𝓖 in
-    walk-spec 𝓤 H 𝓜 𝓖 𝓡 code.env name code.function ended stayed Said (code.unfolded 𝓤 H 𝓜 𝓡)
+    by-hand-spec 𝓤 H 𝓜 𝓖 𝓡 code.env name code.function ended stayed Said (code.unfolded 𝓤 H 𝓜 𝓡)
     (goes-none-slice 𝓤 H (𝓖 .A) W 1 (0 ∷ []) tt (plain (λ _. u8)) yes, (goes-none 𝓤 H (𝓖 .A) W 1 (λ _. usize) yes (λ κs x f. refl), tt))
     (λ κs. (slice-vals, (uint-vals w64, tt))) (λ κs. (shr-slice-tells (named 0) (κs .0) u8, (uint-tells w64, tt)))
-    (λ fm κs qs bounds a are. walk 𝓤 H (𝓖 .A) W (κs .0) (qs .0) (a .0) (a .1 .0) (are .1 .0 .1)
+    (λ fm κs qs bounds a are. through 𝓤 H (𝓖 .A) W (κs .0) (qs .0) (a .0) (a .1 .0) (are .1 .0 .1)
     (tables 𝓤 H 𝓜 𝓡 code.env .C) (tables 𝓤 H 𝓜 𝓡 code.env .Λ) (are .0))

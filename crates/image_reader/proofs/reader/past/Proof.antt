@@ -1,4 +1,4 @@
--- `image_reader::reader::past` meets its contract: a walk of its MIR, by hand. `behind` is called on the place and the width,
+-- `image_reader::reader::past` meets its contract: its MIR, by hand. `behind` is called on the place and the width,
 -- and a struct is made anew of the slice that the one passed holds, and what it returns.
 -- The struct is Copy: what it owns is had twice, one copy is kept whole for the exit, and the other, with the facts of the new place for at's,
 -- is what the result owns. Assumes nothing.
@@ -36,8 +36,8 @@ use denote.Triple.Clauses.{lasts}
 use Rattle.image_reader.specs.Contracts.{behindOf}
 use Rattle.image_reader.specs.declared.reader.Reader.{Reader}
 use Rattle.image_reader.proofs.Locals.{allocates, copies, lands-number, leaves}
-use Rattle.image_reader.proofs.Walks.{stated, Stated, walk-spec, Moved, B, Has, reader-vals, reader-tells, passed, valueOf, token, twice}
-use Rattle.image_reader.proofs.Walks.{joins-number, enters, hears}
+use Rattle.image_reader.proofs.ByHand.{stated, Stated, by-hand-spec, Moved, B, Has, reader-vals, reader-tells, passed, valueOf, token, twice}
+use Rattle.image_reader.proofs.ByHand.{joins-number, enters, hears}
 use Rattle.image_reader.proofs.reader.Reader as T
 use Rattle.image_reader.proofs.reader.Reader.Laws as T′
 use Rattle.image_reader.proofs.reader.behind as callee
@@ -88,9 +88,9 @@ module _ {M : Type 1} (𝓤 : URA M) (H : Heap 𝓤) (A : Atoms 𝓤) (W : Given
       by ! (own-put 𝓤 H A W (T.the-type (namedLft 1 0 tt (κ, tt))) (T′.the-laws (namedLft 1 0 tt (κ, tt))) 1 (d .image, (d .at, tt)) r mach)
 
   module _ (C : Calls 𝓤 H) (Λ : Loops 𝓤 H) (fm : FmC 𝓤 H (W .laws) C) (known : Triple 𝓤 (C callee-def.name) (Callee 𝓤 H A)) where
-    walk : Holds (hasTy (T′.mir (named 0)) mach) × WT mach
+    through : Holds (hasTy (T′.mir (named 0)) mach) × WT mach
         → ent 𝓤 (onEntry 𝓤 H A signature (κ, tt) (q, tt) (d, (n, tt)) at) (WpFn 𝓤 H C Λ code.function (mach ∷ vint w64 n ∷ []) Post)
-    walk wt =
+    through wt =
         qed W (token 𝓤 κ q ∷ ‵ (owns (B (κ, tt) ∷ usize ∷ []) (d, (n, tt)) at) ∷ []) ∵ enter ! C Λ code.function (mach ∷ vint w64 n ∷ []) _ $
         allocates ! (λ bs. params1 ! $ pass1 ! (init ! 4 refl wt) $ pass1 ! (init ! 6 refl (tt, record { fits = ok })) $ pass0 ! $
         -- [the token; what d and n own; _0; …]
@@ -114,9 +114,9 @@ pub past-spec : {M : Type 1} → statement M
 unfolding code.routine
 past-spec 𝓤 H 𝓜 𝓖 𝓡 =
     let W = givenOf 𝓤 H 𝓜 𝓖 in
-    walk-spec 𝓤 H 𝓜 𝓖 𝓡 code.env name code.function ended stayed Said (code.unfolded 𝓤 H 𝓜 𝓡)
+    by-hand-spec 𝓤 H 𝓜 𝓖 𝓡 code.env name code.function ended stayed Said (code.unfolded 𝓤 H 𝓜 𝓡)
     (goes-none 𝓤 H (𝓖 .A) W 1 B yes (λ κs x f. refl), (goes-none 𝓤 H (𝓖 .A) W 1 (λ _. usize) yes (λ κs x f. refl), tt))
     (λ κs. (reader-vals κs, (uint-vals w64, tt))) (λ κs. (reader-tells κs, (uint-tells w64, tt)))
-    (λ fm κs qs bounds a are. walk 𝓤 H (𝓖 .A) W (κs .0) (qs .0) (a .0) (a .1 .0) (are .1 .0 .1) (tables 𝓤 H 𝓜 𝓡 code.env .C) (tables 𝓤 H 𝓜 𝓡 code.env .Λ) fm
+    (λ fm κs qs bounds a are. through 𝓤 H (𝓖 .A) W (κs .0) (qs .0) (a .0) (a .1 .0) (are .1 .0 .1) (tables 𝓤 H 𝓜 𝓡 code.env .C) (tables 𝓤 H 𝓜 𝓡 code.env .Λ) fm
     (cited 𝓤 H (Callee 𝓤 H (𝓖 .A)) 𝓜 𝓡 code.env callee-def.name callee-def.routine code.calls-image-reader·reader·behind (callee-thm.met 𝓤 H 𝓜 𝓖 𝓡))
     (passed W κs (a .0) _ (are .0)))

@@ -1,4 +1,4 @@
--- What the walks by hand over a `Reader` share: from a walk to the contract, a call's entry and its return, and what a slice and a reader own.
+-- What the proofs by hand over a `Reader` share: from what is shown of the MIR to the contract, a call's entry and its return, and what a slice and a reader own.
 -- Assumes `Given`, for the calculus alone.
 use mathlib.Core.Path.{_≡_, refl}
 use Prim.Native.Nat.{ℕ, _<_, _^_}
@@ -57,8 +57,8 @@ module _ {M : Type 1} (𝓤 : URA M) (H : Heap 𝓤) (𝓜 : Model 𝓤 H) (𝓖
   abbrev S : Signature
   S = T .signature
 
-  -- the function under the name f meets such a contract where its MIR e is walked, for any parameters, from what they own
-  pub walk-spec : Closed 𝓤 H (tables 𝓤 H 𝓜 𝓡 γ .C) (tables 𝓤 H 𝓜 𝓡 γ .Λ) f e
+  -- the function under the name f meets such a contract where its MIR e is gone through, for any parameters, from what they own
+  pub by-hand-spec : Closed 𝓤 H (tables 𝓤 H 𝓜 𝓡 γ .C) (tables 𝓤 H 𝓜 𝓡 γ .Λ) f e
       → AllGo 𝓤 H (𝓖 .A) (givenOf 𝓤 H 𝓜 𝓖) (S .lifetimes) (S .params) (T .kept) hs
       → (sp : (κs : Lfts (S .lifetimes)) → Spells (typesAt (S .params) κs))
       → ((κs : Lfts (S .lifetimes)) → Tellss (typesAt (S .params) κs) (Ises (typesAt (S .params) κs)) (sp κs))
@@ -70,13 +70,13 @@ module _ {M : Type 1} (𝓤 : URA M) (H : Heap 𝓤) (𝓜 : Model 𝓤 H) (𝓖
       (walkOf 𝓤 H (𝓖 .A) T hs (stated 𝓤 T φ) .post ((κs, qs, bounds, a, valss (typesAt (S .params) κs) (sp κs) a), tt))))
       → Meets 𝓤 H (𝓖 .A) S (𝓡 .run (γ f)) (closing 𝓤 H (𝓖 .A) T (stated 𝓤 T φ))
   unfolding tablesOf
-  walk-spec unfolded gs sp tl walks =
+  by-hand-spec unfolded gs sp tl through =
       let 𝓣 = tablesOf 𝓤 H 𝓜 (tables 𝓤 H 𝓜 𝓡 γ) in
       let W = givenOf 𝓤 H 𝓜 𝓖 in
       let run = WpFn 𝓤 H (𝓣 .C) (𝓣 .Λ) e in
       entered 𝓤 H (Stated 𝓤 T φ H (𝓖 .A)) (𝓣 .C) (𝓣 .Λ) f e unfolded
       (walk-meets 𝓤 H (𝓖 .A) T hs W gs (stated 𝓤 T φ) run (WpFn-mono 𝓤 H (W .laws) 𝓣 e)
-      (walked 𝓤 H (𝓖 .A) T hs (stated 𝓤 T φ) run sp tl (λ κs qs bounds a g are. via 𝓤 _ (fst∗ 𝓤 _ (emp 𝓤)) (walks (fmOf 𝓤 H (W .laws) 𝓣) κs qs bounds a are))))
+      (walked 𝓤 H (𝓖 .A) T hs (stated 𝓤 T φ) run sp tl (λ κs qs bounds a g are. via 𝓤 _ (fst∗ 𝓤 _ (emp 𝓤)) (through (fmOf 𝓤 H (W .laws) 𝓣) κs qs bounds a are))))
 
 module _ {M : Type 1} (𝓤 : URA M) (H : Heap 𝓤) (A : Atoms 𝓤)
     (token : Item 𝓤) (Res : RattleType) (Said : Res .Denot → Type 0) {X : Type 0} (Last : X → Fml) where
