@@ -1,4 +1,4 @@
-//! Tells the linker where libboot.a is: in LOMVADRIC_ARCHIVES (seen from this folder), or where `rt staticlib` writes it. The archive is for
+//! Tells the linker where liblomvadric.a is: in LOMVADRIC_ARCHIVES (seen from this folder), or where `rt staticlib` writes it. The archive is for
 //! x86-64, so on another machine nothing is linked: see `archive_apart`.
 
 use std::env;
@@ -15,8 +15,8 @@ fn main() {
     // A new archive must be linked again, though no source has changed.
     println!(
         "cargo:rerun-if-changed={}",
-        folder.join("libboot.a").display()
+        folder.join("liblomvadric.a").display()
     );
     println!("cargo:rustc-link-search=native={}", folder.display());
-    println!("cargo:rustc-link-lib=static=boot");
+    println!("cargo:rustc-link-lib=static=lomvadric");
 }

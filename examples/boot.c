@@ -12,28 +12,6 @@ enum { ACCEPTED = 0, REFUSED = 1, NOT_READ = 2 };
 
 static uint8_t image[ENOUGH];
 
-static const char *meaning(uint32_t number)
-{
-    switch (number) {
-    case LOMVADRIC_IMAGE_LENGTH:
-        return "the image is shorter than 20 or longer than 65,536 bytes";
-    case LOMVADRIC_UNKNOWN_EDITION:
-        return "the edition is not 1";
-    case LOMVADRIC_GUEST_COUNT:
-        return "n is 0 or above 16";
-    case LOMVADRIC_WRONG_OFFSET:
-        return "offset + 8n + 12 is not the image's length";
-    case LOMVADRIC_FRAME_RANGE:
-        return "H is 0 or above 1,000,000";
-    case LOMVADRIC_BAD_GUEST:
-        return "some guest breaks 1 <= Q <= T, or its T does not divide H";
-    case LOMVADRIC_SHARE_TOO_LARGE:
-        return "the shares add up to more than H";
-    default:
-        return "not a refusal of an image";
-    }
-}
-
 /* Reads the front of the file into `image`; gives 0 where the file can't be opened or a read fails. */
 static int read_image(const char *name, size_t *length)
 {
@@ -63,6 +41,6 @@ int main(int argument_count, char **arguments)
         puts("0");
         return ACCEPTED;
     }
-    printf("%" PRIu32 " %s\n", number, meaning(number));
+    printf("%" PRIu32 " %s\n", number, lomvadric_refusal_text(number));
     return REFUSED;
 }

@@ -1,6 +1,6 @@
 /*
- * The image check as the fuzzer runs it: image after image in one process, which is far faster than a process for each. The boot
- * function is linked too, without instruments, and a difference is a crash: so every image is compared, and not only those kept.
+ * The image check as the fuzzer runs it: image after image in one process, which is far faster than a process for each. The
+ * archive's check is linked too, without instruments, and a difference is a crash: so every image is compared, and not only those kept.
  */
 
 #include <unistd.h>

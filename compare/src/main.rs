@@ -1,7 +1,8 @@
-//! Compares libboot.a with the second implementation on images made from a seed. No argument: all images;
-//! `few`: some two thousand, for valgrind; `write DIR`: no comparison, the sample images are written to DIR;
-//! `scripts WORD...`: no images, the listings of scripts by the program that the words start are compared instead;
-//! `states WORD...`: every call of the library on any state, as the program `test_answers` that the words start tells it. For inputs that a fuzzer has found:
+//! Compares liblomvadric.a with the second implementation. No argument: its check of images, on images made from a seed;
+//! `few`: some two thousand of them, for valgrind; `write DIR`: no comparison, the sample images are written to DIR;
+//! `calls`: each function of the archive, on any state, any table and any image.
+//! The programs: `scripts WORD...` compares the listings of scripts by the program that the words start; `states WORD...` every call of the library
+//! on what `calls` puts to the archive, as the program `test_answers` that the words start tells it. For inputs that a fuzzer has found:
 //! `replay PROGRAM PLAIN FOLDER...` holds two programs to the second implementation on the folders' scripts, and
 //! `images PLAIN FOLDER...` the archive and a program on their images; `seeds DIR` writes images for it to start with.
 
@@ -25,9 +26,10 @@ use std::thread;
 
 use faults::{Faults, SET_COUNT};
 use random::Random;
+use states::Asked::{Archive, Program};
 use tally::Tally;
 
-const USAGE: &str = "usage: compare [few | write DIR | scripts WORD... | states WORD... \
+const USAGE: &str = "usage: compare [few | write DIR | calls | scripts WORD... | states WORD... \
                      | replay PROGRAM PLAIN FOLDER... | images PLAIN FOLDER... | seeds DIR]";
 const DEFAULT_SEED: u64 = 212;
 /// The header promises that calls from several threads don't disturb one another, so two call at once.
@@ -43,7 +45,8 @@ fn main() -> ExitCode {
         ["few"] => seed().and_then(|seed| run(seed, FEW_ROUNDS)),
         ["write", folder] => samples::write(Path::new(folder)).map_err(|error| error.to_string()),
         ["scripts", _, ..] => seed().and_then(|seed| scripts::run(&words[1..], seed)),
-        ["states", _, ..] => seed().and_then(|seed| states::run(&words[1..], seed)),
+        ["states", _, ..] => seed().and_then(|seed| states::run(Program(&words[1..]), seed)),
+        ["calls"] => seed().and_then(|seed| states::run(Archive, seed)),
         ["replay", program, plain, ref folders @ ..] => {
             scripts::replay::run(&[program], &[plain], folders)
         }

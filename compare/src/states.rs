@@ -1,40 +1,98 @@
-//! Compares the program `test_answers` with the second implementation on calls on any state, any table and any image: every number that comes
-//! back. Known answers come first, then batches made from a seed.
+//! Compares the program `test_answers`, or the archive's functions for C, with the second implementation on calls on any state, any table and any
+//! image: every number that comes back. Known answers come first, then batches made from a seed: the same ones for both, but that the program takes no
+//! long images and buffers.
 
+pub mod answers;
 mod batch;
 mod breaking;
 mod choices;
 mod counts;
+mod expected;
 mod fixed;
 mod points;
-mod request;
+pub mod request;
 mod rows;
 mod runs;
-mod wire;
+pub mod wire;
 
+use std::fmt;
 use std::thread::{self, ScopedJoinHandle};
 
+use answers::Answers;
 use counts::Counts;
-use request::{answers, Answers, Request};
+use expected::Form;
+use request::Request;
 use wire::Name;
 
-use crate::scripts::child::{self, Words};
+use crate::archive;
+use crate::scripts::child::{self, Ending, Words};
 
 const BATCHES: usize = 400;
 const THREADS: usize = 2;
 const MOST_SHOWN: usize = 30;
 
-pub fn run(program: Words, seed: u64) -> Result<(), String> {
+/// Who is held to the second implementation.
+#[derive(Clone, Copy)]
+pub enum Asked<'a> {
+    Program(Words<'a>),
+    Archive,
+}
+
+impl Asked<'_> {
+    fn form(self) -> Form {
+        match self {
+            Asked::Program(_) => Form::Program,
+            Asked::Archive => Form::Archive,
+        }
+    }
+
+    /// No more bytes than are given.
+    fn told(self, requests: &[Request], most: usize) -> Result<Told, String> {
+        let Asked::Program(words) = self else {
+            return archive::told(requests, most);
+        };
+        let mut input = (requests.len() as u64).to_le_bytes().to_vec();
+        requests
+            .iter()
+            .for_each(|request| request.write(&mut input));
+        Ok(child::run(words, &input, most)?.into())
+    }
+}
+
+/// The bytes that answers make, and what went wrong behind them.
+pub struct Told {
+    pub output: Vec<u8>,
+    pub failure: Option<String>,
+}
+
+impl From<Ending> for Told {
+    fn from(ending: Ending) -> Told {
+        let told = || format!("the program ends with {}", ending.status);
+        Told {
+            failure: (!ending.status.success()).then(told),
+            output: ending.output,
+        }
+    }
+}
+
+impl fmt::Display for Asked<'_> {
+    fn fmt(&self, out: &mut fmt::Formatter) -> fmt::Result {
+        out.write_str(match self {
+            Asked::Program(_) => "the program",
+            Asked::Archive => "the archive",
+        })
+    }
+}
+
+pub fn run(asked: Asked, seed: u64) -> Result<(), String> {
     println!("seed {seed}, {THREADS} threads");
     let fixed = fixed::all();
-    fixed
-        .iter()
-        .try_for_each(|case| hold_fixed(program, case))?;
+    fixed.iter().try_for_each(|case| hold_fixed(asked, case))?;
     println!("known answers: {} requests", fixed.len());
     let told = |reason| format!("seed {seed}, {reason}");
-    let counts = in_turns(|number| hold_batch(program, seed, number)).map_err(told)?;
-    counts.print();
-    counts.verdict().map_err(told)?;
+    let counts = in_turns(|number| hold_batch(asked, seed, number)).map_err(told)?;
+    counts.print(asked.form());
+    counts.verdict(asked.form()).map_err(told)?;
     println!("{} calls agreed, seed {seed}", counts.calls);
     Ok(())
 }
@@ -69,10 +127,12 @@ fn in_turns(held: impl Fn(usize) -> Result<Counts, String> + Sync) -> Result<Cou
     })
 }
 
-fn hold_batch(program: Words, seed: u64, number: usize) -> Result<Counts, String> {
-    let requests = batch::requests(seed, number)?;
-    let given: Vec<Answers> = requests.iter().map(answers).collect();
-    hold(program, &requests, &given)?;
+fn hold_batch(asked: Asked, seed: u64, number: usize) -> Result<Counts, String> {
+    let mut requests = batch::requests(seed, number)?;
+    requests.retain(|request| asked.form() == Form::Archive || request.fits_program());
+    let expected = |request| expected::answers(request, asked.form());
+    let given: Vec<Answers> = requests.iter().map(expected).collect();
+    hold(asked, &requests, &given)?;
     let mut counts = Counts::default();
     for (request, answers) in requests.iter().zip(&given) {
         counts
@@ -82,53 +142,30 @@ fn hold_batch(program: Words, seed: u64, number: usize) -> Result<Counts, String
     Ok(counts)
 }
 
-/// The program's bytes are those that the second implementation's answers make.
-fn hold(program: Words, requests: &[Request], given: &[Answers]) -> Result<(), String> {
-    let mut input = (requests.len() as u64).to_le_bytes().to_vec();
-    requests
-        .iter()
-        .for_each(|request| request.write(&mut input));
+/// The bytes that are told are those that the second implementation's answers make.
+fn hold(asked: Asked, requests: &[Request], given: &[Answers]) -> Result<(), String> {
     let (mut expected, mut ends) = (Vec::new(), Vec::new());
     for answers in given {
         answers.tell(&mut expected);
         ends.push(expected.len());
     }
-    let ending = child::run(program, &input, expected.len() + 1)?;
-    if ending.output != expected {
-        return Err(first_difference(
-            &ending.output,
-            &expected,
-            &ends,
-            requests,
-            given,
-        ));
+    let told = asked.told(requests, expected.len() + 1)?;
+    if told.output == expected {
+        return told.failure.map_or(Ok(()), Err);
     }
-    if !ending.status.success() {
-        return Err(format!("the program ends with {}", ending.status));
-    }
-    Ok(())
-}
-
-fn first_difference(
-    output: &[u8],
-    expected: &[u8],
-    ends: &[usize],
-    requests: &[Request],
-    given: &[Answers],
-) -> String {
-    let pairs = output.iter().zip(expected);
+    let pairs = told.output.iter().zip(&expected);
     let agreed = pairs.take_while(|(one, other)| one == other).count();
     let Some(place) = ends.iter().position(|&end| agreed < end) else {
-        return "the program writes more than the answers".to_string();
+        return Err(format!("{asked} tells more than the answers"));
     };
     let start = if place == 0 { 0 } else { ends[place - 1] };
-    let rest = output.get(start..).unwrap_or_default();
-    let shown = differences(rest, &given[place]).join("\n");
-    format!("request {place}: {}\n{shown}", requests[place])
+    let rest = told.output.get(start..).unwrap_or_default();
+    let shown = differences(asked, rest, &given[place]).join("\n");
+    Err(format!("request {place}: {}\n{shown}", requests[place]))
 }
 
 /// The numbers that differ, by name.
-fn differences(output: &[u8], given: &Answers) -> Vec<String> {
+fn differences(asked: Asked, output: &[u8], given: &Answers) -> Vec<String> {
     let mut rest = output;
     let mut lines = Vec::new();
     for (name, value) in named(given) {
@@ -140,12 +177,12 @@ fn differences(output: &[u8], given: &Answers) -> Vec<String> {
             .rev()
             .fold(0, |sum: u64, byte| sum << 8 | u64::from(*byte));
         if taken.len() < width {
-            lines.push(format!("{name}: the program ends here"));
+            lines.push(format!("{name}: {asked} ends here"));
             break;
         }
         if number != value {
             lines.push(format!(
-                "{name}: the program {number}, the second implementation {value}"
+                "{name}: {asked} {number}, the second implementation {value}"
             ));
         }
     }
@@ -159,21 +196,22 @@ fn named(given: &Answers) -> Vec<(Name, u64)> {
     named
 }
 
-/// Both programs agree, and on what is known.
-fn hold_fixed(program: Words, case: &fixed::Fixed) -> Result<(), String> {
+/// Both agree, and the second implementation on what is known.
+fn hold_fixed(asked: Asked, case: &fixed::Fixed) -> Result<(), String> {
     let told = |reason| format!("{}: {reason}", case.name);
-    let given = answers(&case.request);
-    hold(
-        program,
-        std::slice::from_ref(&case.request),
-        std::slice::from_ref(&given),
-    )
-    .map_err(told)?;
-    let numbers = named(&given);
-    for sentence in case.known.split(", ") {
+    let given = expected::answers(&case.request, asked.form());
+    let request = std::slice::from_ref(&case.request);
+    hold(asked, request, std::slice::from_ref(&given)).map_err(told)?;
+    hold_known(&case.request, Form::Program, case.known).map_err(told)?;
+    hold_known(&case.request, Form::Archive, case.known_to_c).map_err(told)
+}
+
+fn hold_known(request: &Request, form: Form, known: &str) -> Result<(), String> {
+    let numbers = named(&expected::answers(request, form));
+    for sentence in known.split(", ").filter(|sentence| !sentence.is_empty()) {
         let says = |(name, value): &(Name, u64)| format!("{name} = {value}") == sentence;
         if !numbers.iter().any(says) {
-            return Err(told(format!("this must be, and is not: {sentence}")));
+            return Err(format!("this must be, and is not: {sentence}"));
         }
     }
     Ok(())

@@ -5,7 +5,7 @@ use second::state::State;
 use second::table::Table;
 
 use super::points::{self, FURTHEST};
-use super::request::Request;
+use super::request::{Request, LONGEST_BUFFER};
 use super::rows;
 use super::runs::{any_table, placed, pool, table_of, wake_at, Pool};
 use super::{breaking, choices};
@@ -18,9 +18,6 @@ const PLAIN_STATES: usize = 140;
 const PLAIN_TABLES: usize = 30;
 const BUILT_IMAGES: usize = 10;
 const TRIES: usize = 1_000;
-/// The longest that the program takes.
-const LONGEST_IMAGE: usize = 65_600;
-const LONGEST_BUFFER: usize = 200;
 
 /// The same requests for the same seed and number.
 pub fn requests(seed: u64, number: usize) -> Result<Vec<Request>, String> {
@@ -41,6 +38,7 @@ pub fn requests(seed: u64, number: usize) -> Result<Vec<Request>, String> {
     add_refused(&mut random, &pool, &mut requests);
     add_tables(&mut random, &mut requests);
     add_images(&mut random, &mut requests);
+    add_long(&mut random, &mut requests);
     Ok(requests)
 }
 
@@ -201,11 +199,14 @@ fn add_images(random: &mut Random, requests: &mut Vec<Request>) {
             kinds::good(random).image(),
             kinds::changed(random),
         ];
-        requests.extend(
-            images
-                .into_iter()
-                .filter(|image| image.len() <= LONGEST_IMAGE)
-                .map(Request::Image),
-        );
+        requests.extend(images.into_iter().map(Request::Image));
     }
+}
+
+/// Lengths whose low 8 or 16 bits alone would be another answer; most of them are more than the program takes.
+fn add_long(random: &mut Random, requests: &mut Vec<Request>) {
+    requests.push(Request::Image(kinds::good_then_more(random)));
+    let length = random.pick(&[256, 65_536, 65_792]) + random.length(0, 11);
+    let table = any_table(random);
+    requests.push(Request::table(table, length, random.next() as u8));
 }

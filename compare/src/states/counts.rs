@@ -3,8 +3,10 @@
 
 use std::collections::BTreeMap;
 
+use super::answers::{Answers, Entries, StateAnswers};
+use super::expected::Form;
 use super::points::{self, broken, Point};
-use super::request::{Answers, Request, StateAnswers};
+use super::request::Request;
 use super::rows::{self, Rows};
 use crate::faults::{faults_of, FIRST, LAST};
 use second::state::State;
@@ -12,7 +14,7 @@ use second::state::State;
 /// What none of the counts may be below.
 const LEAST: u64 = 100;
 /// What each call can give.
-const GIVEN: [(&str, &[u32]); 12] = [
+const GIVEN: [(&str, &[u32]); 13] = [
     ("arrive", &[0, 1, 2, 4, 5, 6]),
     ("done", &[0, 1, 2, 3]),
     ("advance", &[0, 1, 7]),
@@ -22,9 +24,10 @@ const GIVEN: [(&str, &[u32]); 12] = [
     ("margin", &[0, 1, 2]),
     ("check", &[0, 10, 12, 13, 14]),
     ("fresh", &[0, 10, 12, 13, 14]),
-    ("write", &[0, 10, 12, 13, 14, 15]),
-    ("read", &[0, 8, 9, 10, 11, 12, 13, 14]),
-    ("boot", &[0, 8, 9, 10, 11, 12, 13, 14]),
+    ("write_image", &[0, 10, 12, 13, 14, 15]),
+    ("read_image", &[0, 8, 9, 10, 11, 12, 13, 14]),
+    ("check_image", &[0, 8, 9, 10, 11, 12, 13, 14]),
+    ("entries", &[0, 8, 9, 10, 11, 12, 13, 14]),
 ];
 /// What can hold at once.
 const PAIRS: [(&str, &[(u32, u32)]); 8] = [
@@ -36,7 +39,7 @@ const PAIRS: [(&str, &[(u32, u32)]); 8] = [
     ("check", &TABLE_PAIRS),
     ("fresh", &TABLE_PAIRS),
     (
-        "write",
+        "write_image",
         &[
             (10, 12),
             (10, 13),
@@ -61,10 +64,18 @@ pub struct Counts {
     alone: BTreeMap<Point, u64>,
 }
 
+/// C has no check of a table, and the program tells no number with the entries.
+fn has_number(call: &str, form: Form) -> bool {
+    match call {
+        "check" => form == Form::Program,
+        "entries" => form == Form::Archive,
+        _ => true,
+    }
+}
+
 impl Counts {
     /// Counts a request whose answers agreed; an error is a number that is not what the conditions say.
     pub fn take(&mut self, request: &Request, answers: &Answers) -> Result<(), String> {
-        self.calls += request.calls();
         match (request, answers) {
             (
                 Request::State {
@@ -74,26 +85,28 @@ impl Counts {
                 },
                 Answers::State(given),
             ) => self.take_state(state, *guest, *ticks, given),
-            (
-                Request::Table { table, length, .. },
-                Answers::Table {
-                    check,
-                    fresh,
-                    write,
-                    ..
-                },
-            ) => {
-                self.take_call("check", *check, &rows::of_table(table))?;
-                self.take_call("fresh", fresh.refusal, &rows::of_table(table))?;
-                self.take_call("write", *write, &rows::of_write(table, *length))
+            (Request::Table { table, length, .. }, Answers::Table(given)) => {
+                let rows = rows::of_table(table);
+                if let Some(check) = given.check {
+                    self.take_call("check", check, &rows)?;
+                }
+                self.take_call("fresh", given.fresh.refusal, &rows)?;
+                self.take_call("write_image", given.write, &rows::of_write(table, *length))
             }
-            (Request::Image(image), Answers::Image { reading, .. }) => {
+            (Request::Image(image), Answers::Image(given)) => {
                 let faults = faults_of(image);
                 let rows: Rows = (FIRST..=LAST)
                     .filter(|&number| faults.has(number))
                     .collect();
-                self.take_call("read", reading.refusal, &rows)?;
-                self.take_call("boot", reading.refusal, &rows)
+                self.take_call("read_image", given.read.refusal, &rows)?;
+                self.take_call("check_image", given.check, &rows)?;
+                match given.entries {
+                    Entries::Part { refusal, .. } => self.take_call("entries", refusal, &rows),
+                    Entries::Bytes(_) => {
+                        self.calls += 1;
+                        Ok(())
+                    }
+                }
             }
             _ => Err("the answer is to another kind of request".to_string()),
         }
@@ -135,6 +148,7 @@ impl Counts {
     }
 
     fn take_call(&mut self, call: &'static str, refusal: u32, rows: &Rows) -> Result<(), String> {
+        self.calls += 1;
         *self.given.entry((call, refusal)).or_default() += 1;
         if let [smallest, others @ ..] = rows.as_slice() {
             for &other in others {
@@ -167,13 +181,15 @@ impl Counts {
     }
 
     /// Every count that is asked for, with what it counts.
-    fn wanted(&self) -> Vec<(String, u64)> {
+    fn wanted(&self, form: Form) -> Vec<(String, u64)> {
         let given = GIVEN
             .iter()
+            .filter(|(call, _)| has_number(call, form))
             .flat_map(|(call, numbers)| numbers.iter().map(move |&number| (*call, number)));
         let given = given.map(|key| (format!("{} gives {}", key.0, key.1), self.given.get(&key)));
         let pairs = PAIRS
             .iter()
+            .filter(|(call, _)| has_number(call, form))
             .flat_map(|(call, pairs)| pairs.iter().map(move |&(one, other)| (*call, one, other)));
         let pairs = pairs.map(|key| {
             (
@@ -191,14 +207,38 @@ impl Counts {
             .collect()
     }
 
-    pub fn print(&self) {
-        for (what, count) in self.wanted() {
+    pub fn print(&self, form: Form) {
+        match form {
+            Form::Program => self.print_wanted(),
+            Form::Archive => self.print_functions(),
+        }
+    }
+
+    fn print_wanted(&self) {
+        for (what, count) in self.wanted(Form::Program) {
             println!("{what}: {count}");
         }
     }
 
-    pub fn verdict(&self) -> Result<(), String> {
-        let few = self.wanted().into_iter().find(|(_, count)| *count < LEAST);
+    /// A line for each function that C has: how often it was called, and how often it gave each number.
+    fn print_functions(&self) {
+        let functions = GIVEN
+            .iter()
+            .filter(|(call, _)| has_number(call, Form::Archive));
+        for (call, numbers) in functions {
+            let times = |number: &u32| self.given.get(&(*call, *number)).copied().unwrap_or(0);
+            let told: Vec<String> = numbers
+                .iter()
+                .map(|number| format!("{number} {} times", times(number)))
+                .collect();
+            let calls: u64 = numbers.iter().map(times).sum();
+            println!("lomvadric_{call}: {calls} calls; gave {}", told.join(", "));
+        }
+    }
+
+    pub fn verdict(&self, form: Form) -> Result<(), String> {
+        let wanted = self.wanted(form);
+        let few = wanted.into_iter().find(|(_, count)| *count < LEAST);
         few.map_or(Ok(()), |(what, count)| {
             Err(format!("only {count} of these: {what}"))
         })

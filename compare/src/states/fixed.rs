@@ -1,4 +1,4 @@
-//! Cases whose answers are known from the specification, and not from either program. They come first.
+//! Cases whose answers are known from the specification, and not from either side. They come first.
 
 use second::state::{Guest, Spare, State};
 use second::table::{Entry, Table};
@@ -10,6 +10,14 @@ pub struct Fixed {
     pub request: Request,
     /// Numbers by their names, as `wire::Name` prints them: `arrive refusal = 1, done refusal = 1`.
     pub known: &'static str,
+    /// Those that C is told, and the program does not tell.
+    pub known_to_c: &'static str,
+}
+
+impl Fixed {
+    fn and_to_c(self, known_to_c: &'static str) -> Fixed {
+        Fixed { known_to_c, ..self }
+    }
 }
 
 pub fn all() -> Vec<Fixed> {
@@ -32,6 +40,7 @@ fn case(name: &'static str, state: State, guest: u64, ticks: u64, known: &'stati
         name,
         request: Request::state(state, guest, ticks),
         known,
+        known_to_c: "",
     }
 }
 
@@ -183,11 +192,12 @@ fn ties() -> Vec<Fixed> {
         "ask kind = 1, ask guest = 0, active mask = 3, active actives = 2, advance guest 0 own = 1";
     let sooner =
         "ask kind = 1, ask guest = 1, ask deadline = 7, ask span = 1, advance guest 1 own = 1";
+    let own = "ask owner = 1, walk line 0 kind = 1, walk line 0 guest = 1, walk line 0 owner = 1";
     let second = with_guest(idle_until(0, 8, &[(2, 8), (2, 8)]), 1, 1, 2, 8);
     let one = "active mask = 2, active actives = 1, ask guest = 1, margin ticks = 8";
     vec![
         case("equal deadlines", both(2, 2), 1, 1, lowest),
-        case("the sooner deadline", both(2, 1), 1, 1, sooner),
+        case("the sooner deadline", both(2, 1), 1, 1, sooner).and_to_c(own),
         case("guest 1 alone", second, 1, 1, one),
     ]
 }
@@ -226,13 +236,16 @@ fn tables() -> Vec<Fixed> {
         name,
         request: Request::table(table(frame, guests), length, 0xA5),
         known,
+        known_to_c: "",
     };
-    let good = "check refusal = 0, fresh refusal = 0, write refusal = 0";
-    let short = "check refusal = 0, fresh refusal = 0, write refusal = 15, bytes byte 0 = 165";
-    let guest = "check refusal = 13, fresh refusal = 13, write refusal = 13, fresh table count = 0";
-    let frame = "check refusal = 12, fresh refusal = 12, write refusal = 12";
-    let share = "check refusal = 14, fresh refusal = 14, write refusal = 14";
-    let count = "check refusal = 10, fresh refusal = 10, write refusal = 10";
+    let good = "check refusal = 0, fresh refusal = 0, write_image refusal = 0";
+    let short =
+        "check refusal = 0, fresh refusal = 0, write_image refusal = 15, bytes byte 0 = 165";
+    let guest =
+        "check refusal = 13, fresh refusal = 13, write_image refusal = 13, fresh table count = 0";
+    let frame = "check refusal = 12, fresh refusal = 12, write_image refusal = 12";
+    let share = "check refusal = 14, fresh refusal = 14, write_image refusal = 14";
+    let count = "check refusal = 10, fresh refusal = 10, write_image refusal = 10";
     vec![
         of("shares of 8 in 8", 8, &[(3, 4), (2, 8)], 28, good),
         of("a buffer of 27 bytes", 8, &[(3, 4), (2, 8)], 27, short),
@@ -248,16 +261,24 @@ fn tables() -> Vec<Fixed> {
 
 fn images() -> Vec<Fixed> {
     let whole = [3, 0, 0, 0, 4, 0, 0, 0, 8, 0, 0, 0, 0, 0, 0, 0, 1, 0, 1, 0];
-    let of = |name, image: &[u8], known| Fixed {
+    let of = |name, image: &[u8], known, known_to_c| Fixed {
         name,
         request: Request::Image(image.into()),
         known,
+        known_to_c,
     };
-    let refused = "read refusal = 8, boot refusal = 8, entries length = 0, read table count = 0";
-    let read = "read refusal = 0, read table frame = 8, read table count = 1, read entry 0 budget = 3, read entry 0 period = 4, \
-                boot refusal = 0, entries length = 8, bytes byte 0 = 3, bytes byte 4 = 4";
+    let refused = "read_image refusal = 8, check_image refusal = 8, entries length = 0, read_image table count = 0";
+    let no_part = "entries refusal = 8, entries offset = 0, entries length = 0";
+    let read = "read_image refusal = 0, read_image table frame = 8, read_image table count = 1, read_image entry 0 budget = 3, \
+                read_image entry 0 period = 4, check_image refusal = 0, entries length = 8, bytes byte 0 = 3, bytes byte 4 = 4";
+    let at_front = "entries refusal = 0, entries offset = 0, entries length = 8";
+    let mut behind = vec![7; 3];
+    behind.extend(whole);
+    behind[3 + 12] = 3;
+    let at_3 = "entries refusal = 0, entries offset = 3, entries length = 8";
     vec![
-        of("an image of 19 bytes", &whole[1..], refused),
-        of("an image of 20 bytes", &whole, read),
+        of("an image of 19 bytes", &whole[1..], refused, no_part),
+        of("an image of 20 bytes", &whole, read, at_front),
+        of("three bytes in front", &behind, read, at_3),
     ]
 }

@@ -4,7 +4,6 @@
 use std::fmt;
 
 use second::state::State;
-use second::steps::{Ask, Portion, Source};
 use second::table::Table;
 
 /// What a number of an answer is: the call's name, the part, its place where the part has several, and the field.
@@ -128,43 +127,48 @@ impl<Told: Sink> Teller<'_, Told> {
         self.named("state", None, "empty", state.nothing_ticks);
     }
 
-    pub fn portion(&mut self, place: usize, portion: Option<&Portion>) {
-        let (first, end) = portion.map_or((0, 0), |told| (told.first, told.end));
-        let (kind, guest, owner) = kind_of(portion.map_or(Ask::Nothing, |told| told.answer));
+    pub fn line(&mut self, place: usize, line: &Line) {
         let numbers = [
-            ("first", first),
-            ("end", end),
-            ("kind", kind),
-            ("guest", guest),
-            ("owner", owner),
+            ("first", line.first),
+            ("end", line.end),
+            ("kind", line.used.kind),
+            ("guest", line.used.guest),
+            ("owner", line.used.owner),
         ];
         self.fields("line", place, &numbers);
     }
 
-    pub fn ask(&mut self, answer: Ask) {
-        let (kind, guest, owner) = kind_of(answer);
-        let (deadline, span) = match answer {
-            Ask::Run { deadline, span, .. } | Ask::Burn { deadline, span, .. } => (deadline, span),
-            Ask::Nothing => (0, 0),
-        };
-        self.number("kind", kind);
-        self.number("guest", guest);
-        self.number("owner", owner);
-        self.number("deadline", deadline);
-        self.number("span", span);
+    pub fn next(&mut self, next: &Next) {
+        self.number("kind", next.used.kind);
+        self.number("guest", next.used.guest);
+        self.number("owner", next.used.owner);
+        self.number("deadline", next.deadline);
+        self.number("span", next.span);
     }
 }
 
-/// Kind, guest and owner; a number that the kind does not have is 0.
-fn kind_of(answer: Ask) -> (u64, u64, u64) {
-    match answer {
-        Ask::Nothing => (0, 0, 0),
-        Ask::Run { guest, source, .. } => match source {
-            Source::Own => (1, guest, 0),
-            Source::Spare { owner } => (2, guest, owner),
-        },
-        Ask::Burn { owner, .. } => (3, 0, owner),
-    }
+/// What a tick uses: of kind 0 nothing, of 1 a guest's own budget, of 2 a spare, of 3 a spare that burns.
+#[derive(Clone, Copy, Default)]
+pub struct Used {
+    pub kind: u64,
+    pub guest: u64,
+    pub owner: u64,
+}
+
+/// A portion of a walk.
+#[derive(Clone, Copy, Default)]
+pub struct Line {
+    pub first: u64,
+    pub end: u64,
+    pub used: Used,
+}
+
+/// What the next tick would do.
+#[derive(Clone, Copy, Default)]
+pub struct Next {
+    pub used: Used,
+    pub deadline: u64,
+    pub span: u64,
 }
 
 pub const TABLE_NUMBERS: usize = 34;

@@ -22,12 +22,14 @@ pub const SHORTEST_IMAGE: usize = 20;
 pub const LONGEST_IMAGE: usize = 65536;
 
 // A guest's budget Q and period T.
+#[repr(C)]
 pub struct Entry {
     pub budget: u64,
     pub period: u64,
 }
 
 // A frame H and the entries of `count` guests; the places behind them are zero.
+#[repr(C)]
 pub struct Table {
     pub frame: u64,
     pub count: usize,
@@ -36,6 +38,7 @@ pub struct Table {
 
 // What changes of a guest: waiting jobs, the current budget c, the deadline d, and two tallies:
 // ticks run on its own budget, ticks run on a spare.
+#[repr(C)]
 pub struct Guest {
     pub jobs: u64,
     pub current: u64,
@@ -44,6 +47,7 @@ pub struct Guest {
     pub borrowed: u64,
 }
 
+#[repr(C)]
 pub struct Spare {
     pub deadline: u64,
     pub owner: usize,
@@ -52,6 +56,7 @@ pub struct Spare {
 
 // The whole state. `listed` spares are in use; the processor's two tallies are idle ticks that burned
 // a spare and idle ticks with nothing to burn.
+#[repr(C)]
 pub struct State {
     pub table: Table,
     pub now: u64,

@@ -1,4 +1,4 @@
-// A request of an image: its table, the boot code's number, and the entries as a part of it.
+// A request of an image: its table, the number of its check, and the entries as a part of it.
 use crate::put::put_answer;
 use crate::put::put_bytes;
 use crate::put::put_number;
@@ -15,7 +15,7 @@ fn put_all(image: &[u8], buffer: &mut [u8]) -> usize {
     let t = loaded.table;
     let told = put_answer(answer, buffer, 0);
     let shown = put_table(t, buffer, told);
-    let number = boot::lomvadric_check_image(image);
+    let number = c_images::check(image);
     let checked = put_number(number as u64, buffer, shown);
     put_bytes(image::entries(image), buffer, checked)
 }

@@ -12,7 +12,7 @@
 //      guest and owner; ask with kind, guest, owner, deadline and span; active with mask and actives; margin with its ticks as the
 //      64 bits of a signed number;
 //   2: check; fresh with its state; write with the buffer's length and its bytes;
-//   3: read with its table; the boot code's number; entries (which has no number) with the length of the part and its bytes.
+//   3: read with its table; the number of its check; entries (which has no number) with the length of the part and its bytes.
 // A kind is 0 for nothing, 1 for a guest on its own budget, 2 for a guest on a spare, 3 for a spare that burns; a number that the kind does
 // not have is 0. An input that ends early, a request of another kind and one that is too long end the answers.
 ghost use Prim.Native.Nat.{_<_};

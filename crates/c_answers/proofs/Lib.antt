@@ -1,0 +1,3 @@
+-- The rows hold, and each answer is settled.
+pub mod Held
+pub mod Unique
