@@ -1,4 +1,4 @@
-"""What bench/run and bench/program share: both programs built, the instructions of a run counted, its time taken."""
+"""What bench/run and bench/program share: the programs built, the instructions of a run counted, its time taken."""
 import os
 import re
 import resource
@@ -10,13 +10,14 @@ COUNTS = f"{FOLDER}/callgrind.out"
 ROUNDS = 9
 
 
-def build(crate, source, plain):
-    """Both programs; the proved one only once its proofs are checked."""
+def build(crate, programs):
+    """The proved program, once its proofs are checked, and programs of C files and archives, whose paths are given for each."""
     os.makedirs(FOLDER, exist_ok=True)
     said = subprocess.run(["rt", "check", crate], capture_output=True, text=True)
     if said.returncode != 0:
         sys.exit(said.stdout + said.stderr)
-    subprocess.run(["gcc", "-O2", "-Wall", "-Wextra", "-o", plain, source], check=True)
+    for program, parts in programs.items():
+        subprocess.run(["gcc", "-O2", "-Wall", "-Wextra", "-Iinclude", "-o", program, *parts], check=True)
 
 
 def counted(run, program):
