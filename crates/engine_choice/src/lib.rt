@@ -64,7 +64,7 @@ pub fn mask_of(guests: [Guest; GUEST_PLACES], count: usize) -> u32
 }
 
 // The number of active guests, where the mask is theirs.
-pub fn count_of(mask: u32) -> u32
+pub fn ones_of(mask: u32) -> u32
     ensures { λ r. ⌜ OnesTold mask r ⌝ }
 {
     u32::count_ones(mask)

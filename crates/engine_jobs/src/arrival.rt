@@ -55,6 +55,6 @@ pub(crate) fn is_full(s: State) -> bool
     let t = s.table;
     let guests = s.guests;
     let mask = engine_choice::mask_of(guests, t.count);
-    let active = engine_choice::count_of(mask);
+    let active = engine_choice::ones_of(mask);
     s.listed + active as usize == SPARE_PLACES
 }

@@ -13,12 +13,12 @@ use rules::SPARE_PLACES;
 use rules::Spare;
 
 // Where x belongs: before the first spare that it comes before. What stands there and behind it is not compared.
-fn place_of(spares: [Spare; SPARE_PLACES], count: usize, x: Spare) -> usize
-    requires { ⌜ count ≤ sparePlaces ⌝ }
-    ensures { λ r. ⌜ (r ≤ count) × (insertSpare (spareOf x) (map spareOf (take count spares)) ≡ map spareOf (take r spares ++ (x ∷ slice r count spares))) ⌝ }
+fn place_of(spares: [Spare; SPARE_PLACES], listed: usize, x: Spare) -> usize
+    requires { ⌜ listed ≤ sparePlaces ⌝ }
+    ensures { λ r. ⌜ (r ≤ listed) × (insertSpare (spareOf x) (map spareOf (take listed spares)) ≡ map spareOf (take r spares ++ (x ∷ slice r listed spares))) ⌝ }
 {
     let mut i: usize = 0;
-    while i < count {
+    while i < listed {
         let y = spares[i];
         if engine_choice::comes_before(x, y) {
             return i;
@@ -29,15 +29,20 @@ fn place_of(spares: [Spare; SPARE_PLACES], count: usize, x: Spare) -> usize
 }
 
 // x at the place `at`, and each spare from there on one place further; the places behind them are not touched.
-fn put_at(spares: [Spare; SPARE_PLACES], count: usize, at: usize, x: Spare) -> [Spare; SPARE_PLACES]
-    requires { ⌜ (at ≤ count) × (count < sparePlaces) ⌝ }
-    requires { ⌜ unused sparePlaceIsZero sparePlaces count spares ≡ true ⌝ }
-    ensures { λ r. ⌜ r ≡ padded sparePlaces noSparePlace (take at spares ++ (x ∷ slice at count spares)) ⌝ }
+fn put_at(
+    spares: [Spare; SPARE_PLACES],
+    listed: usize,
+    at: usize,
+    x: Spare,
+) -> [Spare; SPARE_PLACES]
+    requires { ⌜ (at ≤ listed) × (listed < sparePlaces) ⌝ }
+    requires { ⌜ unused sparePlaceIsZero sparePlaces listed spares ≡ true ⌝ }
+    ensures { λ r. ⌜ r ≡ padded sparePlaces noSparePlace (take at spares ++ (x ∷ slice at listed spares)) ⌝ }
 {
     let mut t = spares;
     t[at] = x;
     let mut i = at;
-    while i < count {
+    while i < listed {
         t[i + 1] = spares[i];
         i = i + 1;
     }
@@ -47,13 +52,13 @@ fn put_at(spares: [Spare; SPARE_PLACES], count: usize, at: usize, x: Spare) -> [
 // The list with one more spare, in its place.
 pub(crate) fn inserted(
     spares: [Spare; SPARE_PLACES],
-    count: usize,
+    listed: usize,
     x: Spare,
 ) -> [Spare; SPARE_PLACES]
-    requires { ⌜ count < sparePlaces ⌝ }
-    requires { ⌜ unused sparePlaceIsZero sparePlaces count spares ≡ true ⌝ }
-    ensures { λ r. ⌜ r ≡ padded sparePlaces noSparePlace (map sparePlace (insertSpare (spareOf x) (map spareOf (take count spares)))) ⌝ }
+    requires { ⌜ listed < sparePlaces ⌝ }
+    requires { ⌜ unused sparePlaceIsZero sparePlaces listed spares ≡ true ⌝ }
+    ensures { λ r. ⌜ r ≡ padded sparePlaces noSparePlace (map sparePlace (insertSpare (spareOf x) (map spareOf (take listed spares)))) ⌝ }
 {
-    let at = place_of(spares, count, x);
-    put_at(spares, count, at, x)
+    let at = place_of(spares, listed, x);
+    put_at(spares, listed, at, x)
 }

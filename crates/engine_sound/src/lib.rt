@@ -95,12 +95,12 @@ fn spare_is_zero(x: Spare) -> bool
     a & b & c
 }
 
-fn other_spares_zero(spares: [Spare; SPARE_PLACES], count: usize) -> bool
-    requires { ⌜ count ≤ sparePlaces ⌝ }
-    ensures { λ r. ⌜ r ≡ every sparePlaceIsZero (drop count spares) ⌝ }
+fn other_spares_zero(spares: [Spare; SPARE_PLACES], listed: usize) -> bool
+    requires { ⌜ listed ≤ sparePlaces ⌝ }
+    ensures { λ r. ⌜ r ≡ every sparePlaceIsZero (drop listed spares) ⌝ }
 {
     let mut ok = true;
-    let mut i: usize = count;
+    let mut i: usize = listed;
     while i < SPARE_PLACES {
         let x = spares[i];
         let b = spare_is_zero(x);
@@ -203,14 +203,14 @@ fn spares_hold(
     guests: [Guest; GUEST_PLACES],
     now: u64,
     spares: [Spare; SPARE_PLACES],
-    count: usize,
+    listed: usize,
 ) -> bool
-    requires { ⌜ (t .count ≤ guestPlaces) × (now ≤ lastTick) × (count ≤ sparePlaces) ⌝ }
-    ensures { λ r. ⌜ r ≡ every (sparePlaceHolds now (guestsOf (t .entries) guests (t .count))) (take count spares) ⌝ }
+    requires { ⌜ (t .count ≤ guestPlaces) × (now ≤ lastTick) × (listed ≤ sparePlaces) ⌝ }
+    ensures { λ r. ⌜ r ≡ every (sparePlaceHolds now (guestsOf (t .entries) guests (t .count))) (take listed spares) ⌝ }
 {
     let mut ok = true;
     let mut i: usize = 0;
-    while i < count {
+    while i < listed {
         let x = spares[i];
         let o = owner_place(x.owner, t.count);
         let e = t.entries[o];
@@ -223,16 +223,16 @@ fn spares_hold(
     ok
 }
 
-fn spares_rise(spares: [Spare; SPARE_PLACES], count: usize) -> bool
-    requires { ⌜ count ≤ sparePlaces ⌝ }
-    ensures { λ r. ⌜ r ≡ rising (map spareOf (take count spares)) ⌝ }
+fn spares_rise(spares: [Spare; SPARE_PLACES], listed: usize) -> bool
+    requires { ⌜ listed ≤ sparePlaces ⌝ }
+    ensures { λ r. ⌜ r ≡ rising (map spareOf (take listed spares)) ⌝ }
 {
-    if count == 0 {
+    if listed == 0 {
         return true;
     }
     let mut ok = true;
     let mut i: usize = 1;
-    while i < count {
+    while i < listed {
         let x = spares[i - 1];
         let y = spares[i];
         let b = engine_choice::comes_before(x, y);
@@ -243,13 +243,13 @@ fn spares_rise(spares: [Spare; SPARE_PLACES], count: usize) -> bool
 }
 
 // "spares plus active guests are at most 64"
-fn has_room(guests: [Guest; GUEST_PLACES], places: usize, count: usize) -> bool
-    requires { ⌜ (places ≤ guestPlaces) × (count ≤ sparePlaces) ⌝ }
-    ensures { λ r. ⌜ r ≡ leb (count + activeCount (inUse places guests)) sparePlaces ⌝ }
+fn has_room(guests: [Guest; GUEST_PLACES], count: usize, listed: usize) -> bool
+    requires { ⌜ (count ≤ guestPlaces) × (listed ≤ sparePlaces) ⌝ }
+    ensures { λ r. ⌜ r ≡ leb (listed + activeCount (inUse count guests)) sparePlaces ⌝ }
 {
-    let mask = engine_choice::mask_of(guests, places);
-    let active = engine_choice::count_of(mask);
-    count + active as usize <= SPARE_PLACES
+    let mask = engine_choice::mask_of(guests, count);
+    let active = engine_choice::ones_of(mask);
+    listed + active as usize <= SPARE_PLACES
 }
 
 // What is left to test once no count passes its places.

@@ -43,7 +43,7 @@ pub fn active(s: State) -> Activity
     let t = s.table;
     let guests = s.guests;
     let mask = engine_choice::mask_of(guests, t.count);
-    let actives = engine_choice::count_of(mask);
+    let actives = engine_choice::ones_of(mask);
     Activity {
         answer: Answer::Went,
         mask,

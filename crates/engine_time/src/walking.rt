@@ -92,18 +92,18 @@ fn used_by(portion: Portion) -> Use
     }
 }
 
-fn goes_on(left: u64, count: usize) -> bool
-    ensures { λ r. ⌜ r ≡ ltb 0 left && ltb count linePlaces ⌝ }
+fn goes_on(left: u64, shown: usize) -> bool
+    ensures { λ r. ⌜ r ≡ ltb 0 left && ltb shown linePlaces ⌝ }
 {
     let more = 0 < left;
-    let room = count < LINE_PLACES;
+    let room = shown < LINE_PLACES;
     more & room
 }
 
 // The spares from the first that is not spent, moved to the front.
-fn spares_left(spares: [Spare; SPARE_PLACES], head: usize, count: usize) -> [Spare; SPARE_PLACES]
-    requires { ⌜ (head ≤ count) × (count ≤ sparePlaces) ⌝ }
-    ensures { λ r. ⌜ r ≡ padded sparePlaces noSparePlace (slice head count spares) ⌝ }
+fn spares_left(spares: [Spare; SPARE_PLACES], head: usize, listed: usize) -> [Spare; SPARE_PLACES]
+    requires { ⌜ (head ≤ listed) × (listed ≤ sparePlaces) ⌝ }
+    ensures { λ r. ⌜ r ≡ padded sparePlaces noSparePlace (slice head listed spares) ⌝ }
 {
     let none = Spare {
         deadline: 0,
@@ -112,7 +112,7 @@ fn spares_left(spares: [Spare; SPARE_PLACES], head: usize, count: usize) -> [Spa
     };
     let mut left = [none; SPARE_PLACES];
     let mut i = head;
-    while i < count {
+    while i < listed {
         let x = spares[i];
         left[i - head] = x;
         i = i + 1;
@@ -163,10 +163,10 @@ fn walk_of(
     spares: [Spare; SPARE_PLACES],
     lines: [Line; LINE_PLACES],
     h: Clock,
-    count: usize,
+    shown: usize,
 ) -> Walk
     requires { ⌜ (h .head ≤ s .listed) × (s .listed ≤ sparePlaces) ⌝ }
-    ensures { λ r. ⌜ r ≡ walkOf s guests spares lines h count ⌝ }
+    ensures { λ r. ⌜ r ≡ walkOf s guests spares lines h shown ⌝ }
 {
     let rest = spares_left(spares, h.head, s.listed);
     let state = State {
@@ -182,7 +182,7 @@ fn walk_of(
         answer: Answer::Went,
         state,
         left: h.left,
-        shown: count,
+        shown: shown,
         lines,
     }
 }
@@ -201,8 +201,8 @@ pub(crate) fn walked(s: State, k: u64) -> Walk
     let mut spares = s.spares;
     let mut lines = no_lines();
     let mut h = started(s, k);
-    let mut count: usize = 0;
-    let mut more = goes_on(k, count);
+    let mut shown: usize = 0;
+    let mut more = goes_on(k, shown);
     while more {
         let last = h.last;
         let e = entries[last];
@@ -221,10 +221,10 @@ pub(crate) fn walked(s: State, k: u64) -> Walk
         let b = guests[i];
         guests[i] = ran(b, c);
         spares[at] = spent(x, c);
-        lines[count] = line_of(portion, h.now, c.ticks);
+        lines[shown] = line_of(portion, h.now, c.ticks);
         h = later(h, c);
-        count = count + 1;
-        more = goes_on(h.left, count);
+        shown = shown + 1;
+        more = goes_on(h.left, shown);
     }
-    walk_of(s, guests, spares, lines, h, count)
+    walk_of(s, guests, spares, lines, h, shown)
 }

@@ -52,16 +52,16 @@ pub(crate) fn malformed(h: Held, buffer: &mut [u8], filled: usize) -> Turned
 
 pub(crate) fn put_portions(
     lines: [Line; LINE_PLACES],
-    count: usize,
+    shown: usize,
     buffer: &mut [u8],
     filled: usize,
 ) -> usize
-    requires { ⌜ (count ≤ linePlaces) × (filled + turnRoom ≤ length (now buffer)) ⌝ }
-    ensures { λ r. ⌜ PortionsPut (take count lines) (now (buffer .entry)) filled (now (buffer .exit)) r ⌝ }
+    requires { ⌜ (shown ≤ linePlaces) × (filled + turnRoom ≤ length (now buffer)) ⌝ }
+    ensures { λ r. ⌜ PortionsPut (take shown lines) (now (buffer .entry)) filled (now (buffer .exit)) r ⌝ }
 {
     let mut end = filled;
     let mut i: usize = 0;
-    while i < count {
+    while i < shown {
         let line = lines[i];
         end = program_lines::put_portion(line, buffer, end);
         i = i + 1;

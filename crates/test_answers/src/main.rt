@@ -37,9 +37,9 @@ fn answer_one(buffer: &mut [u8]) -> bool {
 }
 
 fn run(buffer: &mut [u8]) {
-    let count = next_number();
+    let requests = next_number();
     let mut n: u64 = 0;
-    while n < count {
+    while n < requests {
         if !answer_one(buffer) {
             return;
         }

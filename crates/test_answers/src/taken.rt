@@ -18,7 +18,7 @@ const SPARES: usize = 114;
 
 const NOW: usize = 306;
 
-const SPARE_COUNT: usize = 307;
+const LISTED: usize = 307;
 
 const BURNED: usize = 308;
 
@@ -123,14 +123,14 @@ pub(crate) fn state_in(bytes: &[u8]) -> State {
     let guests = guests_in(bytes);
     let spares = spares_in(bytes);
     let now = number_at(bytes, NOW);
-    let count = number_at(bytes, SPARE_COUNT);
+    let listed = number_at(bytes, LISTED);
     let burned = number_at(bytes, BURNED);
     let empty = number_at(bytes, EMPTY);
     State {
         table,
         now,
         guests,
-        listed: count as usize,
+        listed: listed as usize,
         spares,
         burned,
         empty,

@@ -12,8 +12,8 @@ use Rattle.engine_sound.proofs.has_room.Tie as tie
 mask-of-requires : tie.Need-mask-of-requires
 mask-of-requires c κs = search needs
 
-count-of-requires : tie.Need-count-of-requires
-count-of-requires c κs = search needs
+ones-of-requires : tie.Need-ones-of-requires
+ones-of-requires c κs = search needs
 
 cast-result : tie.Need-cast-result
 cast-result c = search needs
@@ -24,7 +24,7 @@ add-result c = search needs
 returns : tie.Need-returns
 returns c =
     let a = c .before .before in
-    ap (λ (k : ℕ). leb (a .args .count + k) sparePlaces) (count-active (inUse (a .args .places) (a .args .guests)) (c .before .mask-of .ensures .0) (c .count-of .ensures))
+    ap (λ (k : ℕ). leb (a .args .listed + k) sparePlaces) (count-active (inUse (a .args .count) (a .args .guests)) (c .before .mask-of .ensures .0) (c .ones-of .ensures))
 
 pub has-room-spec : {M : Type 1} → statement M
-has-room-spec = tie.close (tie.spec mask-of-requires count-of-requires cast-result add-result returns)
+has-room-spec = tie.close (tie.spec mask-of-requires ones-of-requires cast-result add-result returns)

@@ -1,4 +1,4 @@
--- `engine_sound::other_spares_zero` meets its contract: at i the places from count up to i are tested.
+-- `engine_sound::other_spares_zero` meets its contract: at i the places from listed up to i are tested.
 use Prim.Native.Nat.{_≤_, _-_}
 use Rattle.laws.proofs.Loops.{Tested, tested-start, tested-more, tested-rest}
 use Rattle.rules.specs.Limits.{sparePlaces}
@@ -8,10 +8,10 @@ use Rattle.engine_sound.proofs.other_spares_zero.Statement.{statement}
 use Rattle.engine_sound.proofs.other_spares_zero.Tie as tie
 
 abbrev Inv-loop : tie.InvT-loop
-Inv-loop count spares ok₀ i₀ ok i = (i ≤ sparePlaces) × Tested sparePlaceIsZero spares count i ok
+Inv-loop listed spares ok₀ i₀ ok i = (i ≤ sparePlaces) × Tested sparePlaceIsZero spares listed i ok
 
 abbrev μ-loop : tie.MeasureT-loop
-μ-loop count spares ok₀ i₀ ok i = sparePlaces - i
+μ-loop listed spares ok₀ i₀ ok i = sparePlaces - i
 
 loop-holds : tie.Need-loop-holds Inv-loop μ-loop
 loop-holds c = (search needs, tested-start _ _ _)

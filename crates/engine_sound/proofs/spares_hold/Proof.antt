@@ -16,10 +16,10 @@ use Rattle.engine_sound.proofs.spares_hold.Statement.{statement}
 use Rattle.engine_sound.proofs.spares_hold.Tie as tie
 
 abbrev Inv-loop : tie.InvT-loop
-Inv-loop now count t guests spares ok₀ i₀ ok i = (i ≤ count) × Tested (sparePlaceHolds now (guestsOf (t .entries) guests (t .count))) spares 0 i ok
+Inv-loop now listed t guests spares ok₀ i₀ ok i = (i ≤ listed) × Tested (sparePlaceHolds now (guestsOf (t .entries) guests (t .count))) spares 0 i ok
 
 abbrev μ-loop : tie.MeasureT-loop
-μ-loop now count t guests spares ok₀ i₀ ok i = count - i
+μ-loop now listed t guests spares ok₀ i₀ ok i = listed - i
 
 loop-holds : tie.Need-loop-holds Inv-loop μ-loop
 loop-holds c = (search needs, tested-start _ _ 0)
@@ -68,7 +68,7 @@ loop-again c =
     (search needs, tested-more (l .loop .inv .1) noSparePlace _ (owner-asked (a .args .now) (guestsOf (a .args .t1 .entries) (a .args .t2) (a .args .t1 .count)) x (a .args .t1 .count) (c .spare-fits .result) _ long (c .spare-fits .ensures) read) (search needs))
 
 returns : tie.Need-returns Inv-loop μ-loop
-returns c = tested-front (c .before .loop .inv .1) (c .before .before .args .count) (search needs)
+returns c = tested-front (c .before .loop .inv .1) (c .before .before .args .listed) (search needs)
 
 pub spares-hold-spec : {M : Type 1} → statement M
 spares-hold-spec =

@@ -7,10 +7,10 @@ use Rattle.engine_sound.proofs.spares_rise.Statement.{statement}
 use Rattle.engine_sound.proofs.spares_rise.Tie as tie
 
 abbrev Inv-loop : tie.InvT-loop
-Inv-loop count spares ok₀ i₀ ok i = (1 ≤ i) × (i ≤ count) × Risen spares i ok
+Inv-loop listed spares ok₀ i₀ ok i = (1 ≤ i) × (i ≤ listed) × Risen spares i ok
 
 abbrev μ-loop : tie.MeasureT-loop
-μ-loop count spares ok₀ i₀ ok i = count - i
+μ-loop listed spares ok₀ i₀ ok i = listed - i
 
 returns : tie.Need-returns Inv-loop μ-loop
 returns c = search needs
@@ -48,7 +48,7 @@ loop-again c =
     (search needs, search needs, risen-more (l .before .before .args .t1) (l .loop .i) (l .loop .ok) (l .loop .inv .2) noSparePlace _ (c .comes-before .ensures) (search needs))
 
 returns-2 : tie.Need-returns-2 Inv-loop μ-loop
-returns-2 c = risen-end (c .before .loop .inv .2) (c .before .before .before .args .count) (search needs)
+returns-2 c = risen-end (c .before .loop .inv .2) (c .before .before .before .args .listed) (search needs)
 
 pub spares-rise-spec : {M : Type 1} → statement M
 spares-rise-spec =

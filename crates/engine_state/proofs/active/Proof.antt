@@ -22,13 +22,13 @@ returns c = active-refused (c .before .before .args .s) (sym (c .before .is-soun
 mask-of-requires : tie.Need-mask-of-requires
 mask-of-requires c κs = search needs
 
-count-of-requires : tie.Need-count-of-requires
-count-of-requires c κs = search needs
+ones-of-requires : tie.Need-ones-of-requires
+ones-of-requires c κs = search needs
 
 returns-2 : tie.Need-returns-2
 returns-2 c =
     let e = c .before .before .before .before in
-    active-told (e .before .before .args .s) (holding e) (search (needs, length-mapped)) (search (needs, length-mapped)) (c .before .mask-of .ensures .0) (c .count-of .ensures)
+    active-told (e .before .before .args .s) (holding e) (search (needs, length-mapped)) (search (needs, length-mapped)) (c .before .mask-of .ensures .0) (c .ones-of .ensures)
 
 pub active-spec : {M : Type 1} → statement M
-active-spec = tie.close (tie.spec is-sound-requires returns mask-of-requires count-of-requires returns-2)
+active-spec = tie.close (tie.spec is-sound-requires returns mask-of-requires ones-of-requires returns-2)

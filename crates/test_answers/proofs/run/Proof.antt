@@ -7,10 +7,10 @@ use Rattle.test_answers.proofs.run.Statement.{statement}
 use Rattle.test_answers.proofs.run.Tie as tie
 
 abbrev Inv-loop : tie.InvT-loop
-Inv-loop buffer₀ count n₀ buffer n = (n ≤ count) × (length buffer ≡ length buffer₀)
+Inv-loop buffer₀ requests n₀ buffer n = (n ≤ requests) × (length buffer ≡ length buffer₀)
 
 abbrev μ-loop : tie.MeasureT-loop
-μ-loop buffer₀ count n₀ buffer n = count - n
+μ-loop buffer₀ requests n₀ buffer n = requests - n
 
 next-number-requires : tie.Need-next-number-requires Inv-loop μ-loop
 next-number-requires c κs = search needs

@@ -13,8 +13,8 @@ use Rattle.engine_jobs.proofs.arrival.is_full.Tie as tie
 mask-of-requires : tie.Need-mask-of-requires
 mask-of-requires c κs = search needs
 
-count-of-requires : tie.Need-count-of-requires
-count-of-requires c κs = search needs
+ones-of-requires : tie.Need-ones-of-requires
+ones-of-requires c κs = search needs
 
 cast-result : tie.Need-cast-result
 cast-result c = search needs
@@ -27,7 +27,7 @@ add-result c =
 returns : tie.Need-returns
 returns c =
     let a = c .before .before .before .before .before in
-    ap (λ (n : ℕ). eqb n sparePlaces) (occupied-told (a .args .s) (a .pre) (c .before .before .mask-of .ensures .0) (c .before .count-of .ensures))
+    ap (λ (n : ℕ). eqb n sparePlaces) (occupied-told (a .args .s) (a .pre) (c .before .before .mask-of .ensures .0) (c .before .ones-of .ensures))
 
 pub is-full-spec : {M : Type 1} → statement M
-is-full-spec = tie.close (tie.spec mask-of-requires count-of-requires cast-result add-result returns)
+is-full-spec = tie.close (tie.spec mask-of-requires ones-of-requires cast-result add-result returns)

@@ -14,7 +14,7 @@ put-at-requires c κs = search needs
 returns : tie.Need-returns
 returns c =
     let a = c .before .before .args in
-    c .put-at .ensures ∙ rw (placed-places (a .x) (a .spares) (a .count) (c .before .place-of .result) (c .before .place-of .ensures .1))
+    c .put-at .ensures ∙ rw (placed-places (a .x) (a .spares) (a .listed) (c .before .place-of .result) (c .before .place-of .ensures .1))
 
 pub inserted-spec : {M : Type 1} → statement M
 inserted-spec = tie.close (tie.spec place-of-requires put-at-requires returns)

@@ -6,10 +6,10 @@ use Rattle.engine_jobs.proofs.spares.place_of.Statement.{statement}
 use Rattle.engine_jobs.proofs.spares.place_of.Tie as tie
 
 abbrev Inv-loop : tie.InvT-loop
-Inv-loop count x spares i₀ i = (i ≤ count) × Passed x spares count i
+Inv-loop listed x spares i₀ i = (i ≤ listed) × Passed x spares listed i
 
 abbrev μ-loop : tie.MeasureT-loop
-μ-loop count x spares i₀ i = count - i
+μ-loop listed x spares i₀ i = listed - i
 
 loop-holds : tie.Need-loop-holds Inv-loop μ-loop
 loop-holds c = (search needs, passed-start _ _ _)

@@ -11,10 +11,10 @@ use Rattle.engine_jobs.proofs.spares.put_at.Statement.{statement}
 use Rattle.engine_jobs.proofs.spares.put_at.Tie as tie
 
 abbrev Inv-loop : tie.InvT-loop
-Inv-loop count at spares t₀ i₀ t i = (i ≤ count) × Moved spares t₀ at (at + 1) i t
+Inv-loop listed at spares t₀ i₀ t i = (i ≤ listed) × Moved spares t₀ at (at + 1) i t
 
 abbrev μ-loop : tie.MeasureT-loop
-μ-loop count at spares t₀ i₀ t i = count - i
+μ-loop listed at spares t₀ i₀ t i = listed - i
 
 mul-t : tie.Need-mul-t Inv-loop μ-loop
 mul-t c = search needs
@@ -54,7 +54,7 @@ loop-again c =
 returns : tie.Need-returns Inv-loop μ-loop
 returns c =
     let a = c .before .before in
-    moved-back sparePlaceIsZero noSparePlace spare-zero sparePlaces (a .args .count) (a .args .t1) (a .pre .1) (a .args .at) (a .args .x) (search needs) (search needs) (c .before .loop .inv .1) (search needs)
+    moved-back sparePlaceIsZero noSparePlace spare-zero sparePlaces (a .args .listed) (a .args .t1) (a .pre .1) (a .args .at) (a .args .x) (search needs) (search needs) (c .before .loop .inv .1) (search needs)
 
 pub put-at-spec : {M : Type 1} → statement M
 put-at-spec =

@@ -7,10 +7,10 @@ use Rattle.engine_time.proofs.walking.spares_left.Statement.{statement}
 use Rattle.engine_time.proofs.walking.spares_left.Tie as tie
 
 abbrev Inv-loop : tie.InvT-loop
-Inv-loop head count spares left₀ i₀ left i = (head ≤ i) × (i ≤ count) × Filled spares head i left
+Inv-loop head listed spares left₀ i₀ left i = (head ≤ i) × (i ≤ listed) × Filled spares head i left
 
 abbrev μ-loop : tie.MeasureT-loop
-μ-loop head count spares left₀ i₀ left i = count - i
+μ-loop head listed spares left₀ i₀ left i = listed - i
 
 loop-holds : tie.Need-loop-holds Inv-loop μ-loop
 loop-holds c = (search needs, search needs, filled-start _ _)
@@ -40,7 +40,7 @@ loop-again : tie.Need-loop-again Inv-loop μ-loop
 loop-again c = (search needs, search needs, filled-more (c .before .before .loop .inv .2) _ _ (search needs) (search (needs, length-mapped)) (search needs))
 
 returns : tie.Need-returns Inv-loop μ-loop
-returns c = filled-end (c .before .loop .inv .2) (c .before .before .args .count) (search needs)
+returns c = filled-end (c .before .loop .inv .2) (c .before .before .args .listed) (search needs)
 
 pub spares-left-spec : {M : Type 1} → statement M
 spares-left-spec =

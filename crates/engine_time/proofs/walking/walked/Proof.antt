@@ -11,11 +11,11 @@ use Rattle.engine_time.proofs.walking.walked.Statement.{statement}
 use Rattle.engine_time.proofs.walking.walked.Tie as tie
 
 abbrev Inv-loop : tie.InvT-loop
-Inv-loop s k t entries guests₀ from dues₀ spares₀ lines₀ h₀ count₀ more₀ guests dues spares lines h count more =
-    (t .count ≤ guestPlaces) × (h .last < t .count) × (count ≤ linePlaces) × Walking s k from dues guests spares lines h count more
+Inv-loop s k t entries guests₀ from dues₀ spares₀ lines₀ h₀ shown₀ more₀ guests dues spares lines h shown more =
+    (t .count ≤ guestPlaces) × (h .last < t .count) × (shown ≤ linePlaces) × Walking s k from dues guests spares lines h shown more
 
 abbrev μ-loop : tie.MeasureT-loop
-μ-loop s k t entries guests₀ from dues₀ spares₀ lines₀ h₀ count₀ more₀ guests dues spares lines h count more = linePlaces - count
+μ-loop s k t entries guests₀ from dues₀ spares₀ lines₀ h₀ shown₀ more₀ guests dues spares lines h shown more = linePlaces - shown
 
 -- in the loop there is more to walk
 module _ (c : tie.In-loop Inv-loop μ-loop) where
@@ -25,8 +25,8 @@ module _ (c : tie.In-loop Inv-loop μ-loop) where
   abbrev from : ℕ
   from = c .before .before .before .before .before .before .before .start-of .result
 
-  going : Walking (start .args .s) (start .args .k) from (c .before .loop .dues) (c .before .loop .guests) (c .before .loop .spares) (c .before .loop .lines) (c .before .loop .h) (c .before .loop .count) true
-  going = subst (λ (more : Bool). Walking (start .args .s) (start .args .k) from (c .before .loop .dues) (c .before .loop .guests) (c .before .loop .spares) (c .before .loop .lines) (c .before .loop .h) (c .before .loop .count) more) (c .loop-test .taken) (c .before .loop .inv .3)
+  going : Walking (start .args .s) (start .args .k) from (c .before .loop .dues) (c .before .loop .guests) (c .before .loop .spares) (c .before .loop .lines) (c .before .loop .h) (c .before .loop .shown) true
+  going = subst (λ (more : Bool). Walking (start .args .s) (start .args .k) from (c .before .loop .dues) (c .before .loop .guests) (c .before .loop .spares) (c .before .loop .lines) (c .before .loop .h) (c .before .loop .shown) more) (c .loop-test .taken) (c .before .loop .inv .3)
 
 -- once it is known what to charge, all that the turn needs follows
 module _ (c : tie.After-charge-of Inv-loop μ-loop) where
@@ -39,7 +39,7 @@ module _ (c : tie.After-charge-of Inv-loop μ-loop) where
   abbrev renewal : tie.After-due-of Inv-loop μ-loop
   renewal = place .before .before .before .before .before
 
-  turned : Turned (start loop .args .s) (start loop .args .k) (from loop) (loop .before .loop .dues) (loop .before .loop .guests) (loop .before .loop .spares) (loop .before .loop .lines) (loop .before .loop .h) (loop .before .loop .count) (renewal .before .renewed .result) (renewal .due-of .result) (place .spare-place .result) (c .before .portion-for .result) (c .charge-of .result)
+  turned : Turned (start loop .args .s) (start loop .args .k) (from loop) (loop .before .loop .dues) (loop .before .loop .guests) (loop .before .loop .spares) (loop .before .loop .lines) (loop .before .loop .h) (loop .before .loop .shown) (renewal .before .renewed .result) (renewal .due-of .result) (place .spare-place .result) (c .before .portion-for .result) (c .charge-of .result)
   turned =
       turn (start loop .args .s) (start loop .args .k) (from loop) (start loop .pre .0) (start loop .pre .1) (going loop) (renewal .before .renewed .ensures) (renewal .due-of .ensures) (place .before .before .before .soonest .ensures .1) (place .before .ready .ensures) (place .spare-place .ensures .1) (c .before .portion-for .result) (c .before .portion-for .ensures) (c .charge-of .ensures)
 
@@ -47,7 +47,7 @@ module _ (c : tie.After-charge-of Inv-loop μ-loop) where
   guest-inside = omega (arith, turned .inside, loop .before .loop .inv .0)
 
 -- and the next portion has a place
-line-room : (c : tie.After-line-of Inv-loop μ-loop) → loop (c .before .before .before .before) .before .loop .count < linePlaces
+line-room : (c : tie.After-line-of Inv-loop μ-loop) → loop (c .before .before .before .before) .before .loop .shown < linePlaces
 line-room c =
     let w = loop (c .before .before .before .before) in
     room (start w .args .s) (start w .args .k) (from w) (start w .pre .0) (start w .pre .1) (going w)
@@ -60,8 +60,8 @@ module _ (c : tie.After-loop Inv-loop μ-loop) where
   abbrev from-first : ℕ
   from-first = c .before .before .before .before .before .before .before .start-of .result
 
-  gone : Walking (first .args .s) (first .args .k) from-first (c .before .loop .dues) (c .before .loop .guests) (c .before .loop .spares) (c .before .loop .lines) (c .before .loop .h) (c .before .loop .count) false
-  gone = subst (λ (more : Bool). Walking (first .args .s) (first .args .k) from-first (c .before .loop .dues) (c .before .loop .guests) (c .before .loop .spares) (c .before .loop .lines) (c .before .loop .h) (c .before .loop .count) more) (c .loop-test .left) (c .before .loop .inv .3)
+  gone : Walking (first .args .s) (first .args .k) from-first (c .before .loop .dues) (c .before .loop .guests) (c .before .loop .spares) (c .before .loop .lines) (c .before .loop .h) (c .before .loop .shown) false
+  gone = subst (λ (more : Bool). Walking (first .args .s) (first .args .k) from-first (c .before .loop .dues) (c .before .loop .guests) (c .before .loop .spares) (c .before .loop .lines) (c .before .loop .h) (c .before .loop .shown) more) (c .loop-test .left) (c .before .loop .inv .3)
 
   heads : (c .before .loop .h .head ≤ first .args .s .listed) × (first .args .s .listed ≤ sparePlaces)
   heads = last-head (first .args .s) (first .args .k) from-first (first .pre .0) (first .pre .1) gone
@@ -194,8 +194,8 @@ array-set-from-lines c = line-room c
 later-requires : tie.Need-later-requires Inv-loop μ-loop
 later-requires c κs = turned (c .before .before .before .before) .later
 
-add-count : tie.Need-add-count Inv-loop μ-loop
-add-count c = record { fits = omega (arith, line-room (c .before)) }
+add-shown : tie.Need-add-shown Inv-loop μ-loop
+add-shown c = record { fits = omega (arith, line-room (c .before)) }
 
 goes-on-requires-2 : tie.Need-goes-on-requires-2 Inv-loop μ-loop
 goes-on-requires-2 c κs = search needs
@@ -263,7 +263,7 @@ walked-spec =
     mul-lines
     array-set-from-lines
     later-requires
-    add-count
+    add-shown
     goes-on-requires-2
     loop-less
     loop-again

@@ -11,10 +11,10 @@ use Rattle.program_turn.proofs.put.put_portions.Statement.{statement}
 use Rattle.program_turn.proofs.put.put_portions.Tie as tie
 
 abbrev Inv-loop : tie.InvT-loop
-Inv-loop count buffer₀ filled lines end₀ i₀ buffer end i = (i ≤ count) × Shown lines buffer₀ filled i buffer end
+Inv-loop shown buffer₀ filled lines end₀ i₀ buffer end i = (i ≤ shown) × Shown lines buffer₀ filled i buffer end
 
 abbrev μ-loop : tie.MeasureT-loop
-μ-loop count buffer₀ filled lines end₀ i₀ buffer end i = count - i
+μ-loop shown buffer₀ filled lines end₀ i₀ buffer end i = shown - i
 
 loop-holds : tie.Need-loop-holds Inv-loop μ-loop
 loop-holds c = let a = c .before .args in (search needs, shown-start (a .t1) (now (a .buffer)) (a .filled))
@@ -45,7 +45,7 @@ same-length : tie.Need-same-length Inv-loop μ-loop
 same-length c = shown-long (c .before .loop .inv .1)
 
 returns : tie.Need-returns Inv-loop μ-loop
-returns c = shown-end (c .before .loop .inv .1) (c .before .before .before .args .count) (omega arith) (search needs)
+returns c = shown-end (c .before .loop .inv .1) (c .before .before .before .args .shown) (omega arith) (search needs)
 
 pub put-portions-spec : {M : Type 1} → statement M
 put-portions-spec =
