@@ -1,7 +1,8 @@
-"""What several tools read of the tree: the crates, the edits beside them, and what their antt files declare.
+"""What several tools read of the tree: the crates, the edits beside them, what their antt files declare, and the words for a refusal.
 
 No crate is named here: whatever crates.txt lists is read.
 """
+import functools
 import glob
 import os
 import re
@@ -10,6 +11,8 @@ from typing import NamedTuple
 
 SIGNATURE = re.compile(r"(?P<kind>abbrev |unfoldable )?(?P<public>pub )?(?P<name>[^\s(){}:]+) : (?P<type>.*)")
 NOMINAL = re.compile(r"(?P<public>pub )?(?P<kind>record|data) (?P<name>\S+)(?P<parameters>.*?) : (?P<type>Type \d+) where")
+HEADER = os.path.join(os.path.dirname(os.path.dirname(os.path.abspath(__file__))), "include", "lomvadric.h")
+TEXTS = re.compile(r"texts\[\] = \{\n(.*?)\n    \};", re.DOTALL)
 IMPORT = re.compile(r"(?:ghost )?use Rattle·(?P<crate>[a-z0-9_]+)(?:·specs)?\.specs\.(?P<file>[A-Za-z0-9_]+)\.\{(?P<names>[^}]*)\}")
 
 
@@ -115,3 +118,12 @@ def imported(path):
         for name in use["names"].split(","):
             found[name.strip()] = (use["crate"], use["file"])
     return found
+
+
+@functools.lru_cache(maxsize=None)
+def refusal_texts():
+    """What each number of refusal says, from 0 on. The words stand once, in lomvadric_refusal_text of the C header."""
+    texts = TEXTS.search(read(HEADER))
+    if not texts:
+        sys.exit(f"{HEADER} has no texts of the refusals")
+    return [line.strip().strip('",') for line in texts.group(1).splitlines()]
