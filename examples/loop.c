@@ -87,19 +87,14 @@ static uint32_t run_guests(struct lomvadric_state *state)
     const struct event *event = events;
     uint64_t ticks;
     for (uint64_t clock = 0; clock < END; clock += ticks) {
-        while (event->tick <= clock) {
+        while (event->tick <= clock)
             hand_over(state, event++);
-        }
         struct lomvadric_next next = lomvadric_ask(state);
-        if (next.refusal != 0) {
-            return next.refusal;
-        }
+        if (next.refusal != 0) return next.refusal;
         ticks = ticks_to_run(&next, event->tick - clock);
         start(&next, clock, ticks);
         uint32_t refusal = lomvadric_advance(state, ticks);
-        if (refusal != 0) {
-            return refusal;
-        }
+        if (refusal != 0) return refusal;
     }
     return 0;
 }
