@@ -46,15 +46,19 @@ lineShown l = record { first = l .first; end = l .end; used = useNumbers (l .use
 
 -- ---- whole answers as numbers
 
+-- "tells what the next tick would do", with the number of its refusal
 abbrev pub nextShown : Asked → Next
 nextShown a = nextOf (numberOf (a .answer)) (a .next)
 
+-- "a mask, bit i for guest i, and the number of active guests"
 abbrev pub activesShown : Activity → Actives
 activesShown a = record { refusal = numberOf (a .answer); mask = a .mask; actives = a .actives }
 
+-- "its deadline less the present tick"
 abbrev pub distanceShown : Margin → Distance
 distanceShown m = record { refusal = numberOf (m .answer); ticks = m .ticks }
 
+-- what a walk shows: its lines, and the ticks that are left
 abbrev pub walkShown : Walk → WalkShown
 walkShown w = record { refusal = numberOf (w .answer); left = w .left; shown = w .shown; lines = map lineShown (w .lines) }
 
@@ -73,24 +77,31 @@ pub record Tells {X Y : Type 0} (Allowed : X → Type 0) (shown : X → Y) (told
   pub allowed : Allowed answer
   pub numbers : told ≡ shown answer
 
+-- a fresh state of a table, in the caller's place
 abbrev pub FreshInPlace : Table → State → ℕ → Type 0
 FreshInPlace t after refusal = Gives (Freshened t) after refusal
 
+-- arrive
 abbrev pub ArrivedInPlace : State → ℕ → State → ℕ → Type 0
 ArrivedInPlace s i after refusal = Gives (Arrived s i) after refusal
 
+-- done
 abbrev pub FinishedInPlace : State → ℕ → State → ℕ → Type 0
 FinishedInPlace s i after refusal = Gives (Finished s i) after refusal
 
+-- advance by k
 abbrev pub AdvancedInPlace : State → ℕ → State → ℕ → Type 0
 AdvancedInPlace s k after refusal = Gives (Advanced s k) after refusal
 
+-- Ask
 abbrev pub NextTold : State → Next → Type 0
 NextTold s r = Tells (AskedFor s) nextShown r
 
+-- who is active
 abbrev pub ActivesTold : State → Actives → Type 0
 ActivesTold s r = Tells (ActiveTold s) activesShown r
 
+-- margin
 abbrev pub DistanceTold : State → ℕ → Distance → Type 0
 DistanceTold s i r = Tells (MarginTold s i) distanceShown r
 
