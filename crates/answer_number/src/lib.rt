@@ -1,4 +1,6 @@
 // The specification's number of an answer, for callers that have no enum: C code and listings.
+#![tactic(auto)]
+
 ghost use Rattle.std.specs.Prelude.{◌≡◌};
 ghost use Rattle.rules.specs.Refusals.{refusal_number};
 ghost use Rattle.rules.specs.Calls.{NumberTold};

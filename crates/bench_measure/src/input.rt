@@ -2,7 +2,7 @@
 ghost use Rattle.std.specs.Prelude.{◌<◌, length};
 
 // What to measure, as the line has it.
-#[derive(Drop)]
+#[derive(Clone, Copy)]
 pub(crate) struct Job {
     pub(crate) call: u64,
     pub(crate) guests: u64,
@@ -11,7 +11,7 @@ pub(crate) struct Job {
 }
 
 // A number, and the place of its line that is read next.
-#[derive(Drop)]
+#[derive(Clone, Copy)]
 struct Number {
     value: u64,
     next: usize,

@@ -1,4 +1,6 @@
 // Makes one call of the engine so many times on a prepared state, and writes a checksum of what came of it: what bench/ measures.
+#![tactic(auto)]
+
 use crate::input::{Job, job_of};
 use crate::repeat::{advances, arrivals, asks, completions, long_advance, no_calls};
 use crate::setting::{last_guest, prepared};

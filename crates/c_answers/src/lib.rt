@@ -1,8 +1,10 @@
 // The declared types of what C reads of each call. There is no code here: specs/ says what each answer is in numbers.
+#![tactic(auto)]
+
 use rules::{LINE_PLACES, State};
 
 // What a call that changes the state gives: the number of its answer, and the state.
-#[derive(Drop)]
+#[derive(Clone, Copy)]
 pub struct Changed {
     pub refusal: u32,
     pub state: State,
@@ -10,7 +12,7 @@ pub struct Changed {
 
 // What a tick uses, as numbers: 0 nothing, 1 a guest's own budget, 2 a spare, 3 a spare that burns. A number that the kind does not have is 0.
 #[repr(C)]
-#[derive(Drop)]
+#[derive(Clone, Copy)]
 pub struct UseNumbers {
     pub kind: u32,
     pub guest: usize,
@@ -19,7 +21,7 @@ pub struct UseNumbers {
 
 // What the next tick would do.
 #[repr(C)]
-#[derive(Drop)]
+#[derive(Clone, Copy)]
 pub struct Next {
     pub refusal: u32,
     pub used: UseNumbers,
@@ -28,7 +30,7 @@ pub struct Next {
 }
 
 #[repr(C)]
-#[derive(Drop)]
+#[derive(Clone, Copy)]
 pub struct Actives {
     pub refusal: u32,
     pub mask: u32,
@@ -36,14 +38,14 @@ pub struct Actives {
 }
 
 #[repr(C)]
-#[derive(Drop)]
+#[derive(Clone, Copy)]
 pub struct Distance {
     pub refusal: u32,
     pub ticks: i64,
 }
 
 #[repr(C)]
-#[derive(Drop)]
+#[derive(Clone, Copy)]
 pub struct LineShown {
     pub first: u64,
     pub end: u64,
@@ -51,7 +53,7 @@ pub struct LineShown {
 }
 
 #[repr(C)]
-#[derive(Drop)]
+#[derive(Clone, Copy)]
 pub struct WalkShown {
     pub refusal: u32,
     pub left: u64,
@@ -60,7 +62,7 @@ pub struct WalkShown {
 }
 
 // What a walk gives: what it shows, and the state.
-#[derive(Drop)]
+#[derive(Clone, Copy)]
 pub struct Walked {
     pub told: WalkShown,
     pub state: State,

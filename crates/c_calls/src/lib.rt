@@ -1,4 +1,6 @@
 // Each call of the engine as C reads its answer: refusals and cases as numbers. The state is still handed on by value.
+#![tactic(auto)]
+
 ghost use Rattle.std.specs.Prelude.{◌≡◌, map};
 ghost use Rattle.c_answers.specs.Clauses.{use_numbers, next_of, line_shown, ArrivedInPlace, FinishedInPlace, AdvancedInPlace, FreshInPlace, NextTold, ActivesTold, DistanceTold, WalkedInPlace};
 

@@ -1,5 +1,7 @@
 // Each call on a table image as C reads its answer: a refusal as a number, the entries' part as an offset and a length. The table is still
 // handed on by value.
+#![tactic(auto)]
+
 ghost use Rattle.rules.specs.Calls.{ImageChecked};
 ghost use Rattle.c_images.specs.Clauses.{ReadInPlace, EntriesPlaced, WrittenInPlace};
 
@@ -7,7 +9,7 @@ use image_reader::read_trailer;
 use rules::{Answer, Table};
 
 // What reading an image gives: the number of its answer, and the table.
-#[derive(Drop)]
+#[derive(Clone, Copy)]
 pub struct Reading {
     pub refusal: u32,
     pub table: Table,
@@ -15,7 +17,7 @@ pub struct Reading {
 
 // Where the entries lie in the caller's own image: the empty part at the front where it is refused.
 #[repr(C)]
-#[derive(Drop)]
+#[derive(Clone, Copy)]
 pub struct Part {
     pub refusal: u32,
     pub offset: usize,

@@ -1,5 +1,7 @@
 // The choice of a tick: the order of two spares, who is active, a guest as it may be picked, the portion that comes next, and what so many ticks on it
 // charge to whom.
+#![tactic(auto)]
+
 ghost use Rattle.std.specs.Prelude.{◌≡◌, min};
 ghost use Rattle.rules.specs.Limits.{guest_places};
 ghost use Rattle.rules.specs.Model.{bit_of};
@@ -9,7 +11,7 @@ ghost use Rattle.engine_choice.specs.Clauses.{OrderTold, MaskTold, OnesTold, Low
 use rules::{GUEST_PLACES, Guest, Portion, Source, Spare};
 
 // Who is picked to run: a guest's number, its deadline and its current budget.
-#[derive(Drop)]
+#[derive(Clone, Copy)]
 pub enum Pick {
     Nobody,
     Picked(usize, u64, u64),
@@ -87,7 +89,7 @@ pub fn lowest(guests: [Guest; GUEST_PLACES], count: usize) -> usize
 
 // What is charged: so many ticks, to a guest's own budget and tallies, to the first spare, and to the processor's tallies. `removed` is 1
 // where the first spare is spent, and else 0.
-#[derive(Drop)]
+#[derive(Clone, Copy)]
 pub struct Charge {
     pub ticks: u64,
     pub guest: usize,

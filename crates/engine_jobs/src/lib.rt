@@ -1,4 +1,6 @@
 // Jobs: one arrives at a guest, and one is done.
+#![tactic(auto)]
+
 ghost use Rattle.rules.specs.Calls.{Arrived, Finished};
 
 use crate::arrival::{is_full, joined, woken};

@@ -1,4 +1,6 @@
 // Whether a state is sound, for any numbers in it: tested once a call.
+#![tactic(auto)]
+
 ghost use Rattle.std.specs.Prelude.{true, map, ◌≡◌, ◌≤◌, ◌<◌, ◌+◌, ◌*◌, leb, eqb, take, drop};
 ghost use Rattle.laws.specs.Lists.{every, total};
 ghost use Rattle.rules.specs.Limits.{guest_places, spare_places, last_tick};

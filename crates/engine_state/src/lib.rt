@@ -1,4 +1,6 @@
 // A fresh state, and what can be asked of any state without a tick: who is active, and how far ahead a deadline lies.
+#![tactic(auto)]
+
 ghost use Rattle.rules.specs.Calls.{Freshened, ActiveTold, MarginTold};
 
 use crate::distance::{no_margin, ticks_until};

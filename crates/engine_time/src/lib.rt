@@ -1,4 +1,6 @@
 // Time: what the next tick would do, an advance by k ticks, and a walk that shows them portion by portion.
+#![tactic(auto)]
+
 ghost use Rattle.std.specs.Prelude.{true, ◌≡◌, ◌+◌, ◌≤◌};
 ghost use Rattle.rules.specs.Calls.{advance_rows, AskedFor, Advanced};
 ghost use Rattle.rules.specs.Limits.{last_tick};

@@ -20,7 +20,7 @@ use rules::{
 };
 
 // Where a walk stands: the tick, the ticks left, the processor's tallies, how many spares are spent, and who ran last.
-#[derive(Drop)]
+#[derive(Clone, Copy)]
 pub(crate) struct Clock {
     pub(crate) now: u64,
     pub(crate) left: u64,

@@ -6,13 +6,13 @@ use crate::guests::{CLUSTER_VIEW, MEDIA, NAVIGATION, PHONE};
 // The tick at which the run is over.
 pub(crate) const END: u64 = 3600;
 
-#[derive(Drop)]
+#[derive(Clone, Copy)]
 pub(crate) enum Call {
     Arrive,
     Done,
 }
 
-#[derive(Drop)]
+#[derive(Clone, Copy)]
 pub(crate) struct Event {
     pub(crate) tick: u64,
     pub(crate) call: Call,

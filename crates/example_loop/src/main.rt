@@ -1,4 +1,6 @@
 // An integrator's loop, as a hypervisor would have it: ask who runs next, run it until its span ends or an event comes, ask again.
+#![tactic(auto)]
+
 ghost use Rattle.std.specs.Prelude.{◌≡◌, ◌+◌, ◌≤◌, ◌<◌, min};
 ghost use Rattle.example_loop.specs.Clauses.{WithinSpan, Stops};
 

@@ -1,4 +1,6 @@
 // Table images: read, and their entries handed on.
+#![tactic(auto)]
+
 ghost use Rattle.std.specs.Prelude.{◌≡◌, ◌+◌, ◌*◌, ◌≤◌, length, drop};
 ghost use Rattle.laws.specs.Lists.{padded};
 ghost use Rattle.rules.specs.Limits.{guest_places};

@@ -1,4 +1,6 @@
 // Numbers of an image and of its trailer, for every image and every place.
+#![tactic(auto)]
+
 ghost use Rattle.image_reader.specs.Clauses.{NumberRead, EntryRead, TrailerRead};
 
 use crate::bytes::half_at;
@@ -8,7 +10,7 @@ mod bytes;
 mod reader;
 
 // The numbers of an image's trailer.
-#[derive(Drop)]
+#[derive(Clone, Copy)]
 pub struct Trailer {
     pub frame: usize,
     pub offset: usize,
@@ -17,7 +19,7 @@ pub struct Trailer {
 }
 
 // The numbers of an entry: Q and T.
-#[derive(Drop)]
+#[derive(Clone, Copy)]
 pub struct Pair {
     pub budget: usize,
     pub period: usize,

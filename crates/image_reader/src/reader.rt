@@ -13,7 +13,7 @@ const TRAILER_BYTES: usize = 12;
 const LAST_PLACE: usize = 18446744073709551615;
 
 // An image and the place that is read next. The functions over it only take it apart: the work is done on the slice and the number.
-#[derive(Drop)]
+#[derive(Clone, Copy)]
 pub struct Reader<'a> {
     pub image: &'a [u8],
     pub at: usize,

@@ -1,4 +1,6 @@
 // A table's image, written to a buffer.
+#![tactic(auto)]
+
 ghost use Rattle.rules.specs.Calls.{TableWritten};
 
 use crate::store::{store_entries, store_trailer};

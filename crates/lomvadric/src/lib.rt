@@ -1,5 +1,7 @@
 // The library as C calls it: states, tables and bytes behind pointers, answers as numbers. Each function only fetches what stands there, has `c_calls` or
 // `c_images` do its work by value, and stores what comes of it.
+#![tactic(auto)]
+
 ghost use Rattle.rules.specs.Calls.{ImageChecked};
 ghost use Rattle.c_answers.specs.Clauses.{FreshInPlace, ArrivedInPlace, FinishedInPlace, AdvancedInPlace, WalkedInPlace, NextTold, ActivesTold, DistanceTold};
 ghost use Rattle.c_images.specs.Clauses.{ReadInPlace, EntriesPlaced, WrittenInPlace};

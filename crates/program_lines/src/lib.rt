@@ -1,4 +1,6 @@
 // The lines of the listing, put into a lent buffer behind what it holds: a portion, a refusal, the end.
+#![tactic(auto)]
+
 ghost use Rattle.program_text.specs.Lines.{RoomTold, LinePut, portion_bytes, refusal_bytes, end_bytes};
 
 use crate::parts::{put_closed, put_number, put_spaced, put_used};

@@ -1,4 +1,6 @@
 // One line of the program's input: its letter and its numbers, or malformed.
+#![tactic(auto)]
+
 ghost use Rattle.std.specs.Prelude.{true, false, ◌≡◌, ◌+◌, ◌-◌, ◌*◌, ◌≤◌, ◌<◌, length, drop};
 ghost use Rattle.std.proofs.Math.Seq.{slice};
 ghost use Rattle.program_text.specs.Script.{ends, last_at, guest_line, line_with, one_line, LineTold};
@@ -9,7 +11,7 @@ ghost use Rattle.program_script.specs.Inner.{got_in};
 use program_text::{Call, Line};
 
 // A number that was read, and the place behind it.
-#[derive(Drop)]
+#[derive(Clone, Copy)]
 struct Number {
     ok: bool,
     value: u64,

@@ -1,7 +1,9 @@
 // The declared types of a line of input. There is no code here: specs/ says what a line of input and a line of output are.
+#![tactic(auto)]
+
 
 // A call that a line names; the letters are `A`, `D` and `R`.
-#[derive(Drop)]
+#[derive(Clone, Copy)]
 pub enum Call {
     Arrive(u64),
     Done(u64),
@@ -9,7 +11,7 @@ pub enum Call {
 }
 
 // What a line asks for; the letters are `F`, `G` and those of the calls.
-#[derive(Drop)]
+#[derive(Clone, Copy)]
 pub enum Line {
     Frame(u64),
     Guest(u64, u64),

@@ -5,7 +5,7 @@ ghost use Rattle.program_listing.specs.Turning.{line_length, line_at, behind};
 use program_text::Line;
 
 // What the line asks for, and the place behind it.
-#[derive(Drop)]
+#[derive(Clone, Copy)]
 pub(crate) struct Next {
     pub(crate) line: Line,
     pub(crate) end: usize,

@@ -1,4 +1,6 @@
 // One turn of the program: it takes the input and what is held, puts out some bytes and gives what is held next.
+#![tactic(auto)]
+
 ghost use Rattle.program_listing.specs.Turning.{Turning};
 
 use crate::commands::command_turn;

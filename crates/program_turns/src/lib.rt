@@ -1,4 +1,6 @@
 // What the program holds at first, and whether more is to come; proofs/ has the theorems about its turns.
+#![tactic(auto)]
+
 ghost use Rattle.program_listing.specs.Turning.{Begun, GoingTold};
 
 use program_listing::{Held, Stage};

@@ -1,4 +1,6 @@
 // The declared types and the limits that every other crate shares. There is no code here: specs/ says what must happen.
+#![tactic(auto)]
+
 
 // The limits; specs/Limits.antt has them under the same words.
 pub const GUEST_PLACES: usize = 16;
@@ -23,7 +25,7 @@ pub const LONGEST_IMAGE: usize = 65536;
 
 // A guest's budget Q and period T.
 #[repr(C)]
-#[derive(Drop)]
+#[derive(Clone, Copy)]
 pub struct Entry {
     pub budget: u64,
     pub period: u64,
@@ -31,7 +33,7 @@ pub struct Entry {
 
 // A frame H and the entries of `count` guests; the places behind them are zero.
 #[repr(C)]
-#[derive(Drop)]
+#[derive(Clone, Copy)]
 pub struct Table {
     pub frame: u64,
     pub count: usize,
@@ -41,7 +43,7 @@ pub struct Table {
 // What changes of a guest: waiting jobs, the current budget c, the deadline d, and two tallies:
 // ticks run on its own budget, ticks run on a spare.
 #[repr(C)]
-#[derive(Drop)]
+#[derive(Clone, Copy)]
 pub struct Guest {
     pub jobs: u64,
     pub current: u64,
@@ -51,7 +53,7 @@ pub struct Guest {
 }
 
 #[repr(C)]
-#[derive(Drop)]
+#[derive(Clone, Copy)]
 pub struct Spare {
     pub deadline: u64,
     pub owner: usize,
@@ -61,7 +63,7 @@ pub struct Spare {
 // The whole state. `listed` spares are in use; the processor's two tallies are idle ticks that burned
 // a spare and idle ticks with nothing to burn.
 #[repr(C)]
-#[derive(Drop)]
+#[derive(Clone, Copy)]
 pub struct State {
     pub table: Table,
     pub now: u64,
@@ -73,7 +75,7 @@ pub struct State {
 }
 
 // The numbers of refusal, 1 to 16, in their order.
-#[derive(Drop)]
+#[derive(Clone, Copy)]
 pub enum Refusal {
     NotSound,
     NoSuchGuest,
@@ -93,28 +95,28 @@ pub enum Refusal {
     Malformed,
 }
 
-#[derive(Drop)]
+#[derive(Clone, Copy)]
 pub enum Answer {
     Went,
     Refused(Refusal),
 }
 
 // What a call that changes the state gives back.
-#[derive(Drop)]
+#[derive(Clone, Copy)]
 pub struct Outcome {
     pub answer: Answer,
     pub state: State,
 }
 
 // Whose capacity a running guest uses: its own, or the spare that this guest left.
-#[derive(Drop)]
+#[derive(Clone, Copy)]
 pub enum Source {
     Own,
     SpareOf(usize),
 }
 
 // What a tick uses: a guest runs (number, source), a spare burns (owner), or nothing.
-#[derive(Drop)]
+#[derive(Clone, Copy)]
 pub enum Use {
     Run(usize, Source),
     Burn(usize),
@@ -123,21 +125,21 @@ pub enum Use {
 
 // What the next tick would do: a guest runs (number, source, deadline, span), a spare burns (owner,
 // deadline, span), or nothing.
-#[derive(Drop)]
+#[derive(Clone, Copy)]
 pub enum Portion {
     Run(usize, Source, u64, u64),
     Burn(usize, u64, u64),
     Nothing,
 }
 
-#[derive(Drop)]
+#[derive(Clone, Copy)]
 pub struct Asked {
     pub answer: Answer,
     pub next: Portion,
 }
 
 // A portion of an advance as the listing shows it: its first tick, the tick it ends at, and what it used.
-#[derive(Drop)]
+#[derive(Clone, Copy)]
 pub struct Line {
     pub first: u64,
     pub end: u64,
@@ -146,7 +148,7 @@ pub struct Line {
 
 // What a walk gives: the lines of its first portions, `shown` of them, the state after them, and the ticks that are
 // left to walk.
-#[derive(Drop)]
+#[derive(Clone, Copy)]
 pub struct Walk {
     pub answer: Answer,
     pub state: State,
@@ -156,21 +158,21 @@ pub struct Walk {
 }
 
 // Bit i of the mask stands for guest i; `actives` is the number of its ones.
-#[derive(Drop)]
+#[derive(Clone, Copy)]
 pub struct Activity {
     pub answer: Answer,
     pub mask: u32,
     pub actives: u32,
 }
 
-#[derive(Drop)]
+#[derive(Clone, Copy)]
 pub struct Margin {
     pub answer: Answer,
     pub ticks: i64,
 }
 
 // What reading an image gives.
-#[derive(Drop)]
+#[derive(Clone, Copy)]
 pub struct Loaded {
     pub answer: Answer,
     pub table: Table,

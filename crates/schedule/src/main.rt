@@ -1,4 +1,6 @@
 // The program: commands from standard input, and their schedule on standard output.
+#![tactic(auto)]
+
 ghost use Rattle.std.specs.Prelude.{◌≤◌, length};
 ghost use Rattle.program_listing.specs.Turning.{turn_room};
 ghost use Rattle.schedule.specs.Clauses.{Filled};

@@ -1,4 +1,6 @@
 // The check of a table that any caller may fill with any numbers, refusals 10, 12, 13 and 14, smallest first; and the table of a refusal.
+#![tactic(auto)]
+
 ghost use Rattle.std.specs.Prelude.{◌≡◌, true, ◌≤◌, take, drop};
 ghost use Rattle.laws.specs.Lists.{every, total};
 ghost use Rattle.rules.specs.Limits.{guest_places, longest_frame};

@@ -1,5 +1,7 @@
 // Answers calls on any state, any table and any image that standard input holds, sound or not: what `compare states` holds to the second
 // implementation.
+#![tactic(auto)]
+
 use crate::wire::next_number;
 use libc::STDOUT_FILENO;
 

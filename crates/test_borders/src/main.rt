@@ -1,4 +1,6 @@
 // Prints what the library answers at the borders that the rules do not prove as rows; the second implementation prints the same.
+#![tactic(auto)]
+
 use libc::STDOUT_FILENO;
 use rules::{Answer, Entry, GUEST_PLACES, State, Table};
 
