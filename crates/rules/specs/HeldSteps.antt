@@ -3,7 +3,7 @@ use Rattle.std.specs.Prelude.{◌≡◌, true, false, List, [], ◌∷◌, map, 
 use Rattle.rules.specs.Model.{Guest, guest, Spare, spare, Model, budget_of, jobs_of, current_of, deadline_of, own_of, borrowed_of, tallies_of, due_of, owner_of, capacity_of, active, idle_guest, guest_at, spare_at, mask_of, active_count, occupied, tallies}
 use Rattle.rules.specs.Steps.{wake, join, arrive, before, insert_spare, finish, leave, done, renew, renewed, nobody, picked, ready, sooner, earliest, own_budget, spare_of, runs, burns, nothing, limited, endless, portion, use_of, span_of, portion_for, spend, ran, charge, tick, advance, ask, margin}
 use Rattle.rules.specs.Places.{model, fresh_state, no_state}
-use Rattle.rules.specs.Samples.{◌by◌, table, running, resting, leftovers, sample_of, sample_model, sample}
+use Rattle.rules.specs.Samples.{◌by◌, running, resting, leftovers, sample_of, sample_model, sample}
 use Rattle.rules.specs.HeldTable.{sixteen, counted}
 use Rattle.rules.specs.HeldSound.{place, listed}
 

@@ -1,7 +1,6 @@
 // The declared types and the limits that every other crate shares. There is no code here: specs/ says what must happen.
 #![tactic(auto)]
 
-
 // The limits; specs/Limits.antt has them under the same words.
 pub const GUEST_PLACES: usize = 16;
 
