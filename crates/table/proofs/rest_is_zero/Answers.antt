@@ -1,5 +1,4 @@
 -- `table::rest_is_zero` meets its contract: at i the entries from count up to i are tested.
-use Prim.Native.Nat.{◌-◌}
 use Rattle.laws.proofs.Loops.{tested_more}
 use borrow.Author.Rules.{rules}
 use Rattle.table.proofs.rest_is_zero.Goals as goal

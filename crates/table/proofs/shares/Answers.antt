@@ -1,5 +1,4 @@
 -- `table::shares` meets its contract: each share is at most the frame, so the sum fits.
-use Prim.Native.Nat.{◌-◌}
 use Rattle.laws.proofs.Loops.{summed_more}
 use Rattle.rules.specs.Table.{no_entry}
 use borrow.Author.Rules.{rules}
