@@ -1,8 +1,10 @@
 // The lines that the program writes: stretches, events, refusals and, at the end, the tallies.
 use crate::events::{Call, Event};
 use crate::guests::GUESTS;
-use libc::STDOUT_FILENO;
 use rules::{Answer, GUEST_PLACES, Guest, Portion, Source, State};
+
+// Where output goes to, by its number.
+const STDOUT_FILENO: i32 = 1;
 
 fn write_text(words: &[u8]) {
     io::write_all(STDOUT_FILENO, words);

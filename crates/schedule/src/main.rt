@@ -5,9 +5,13 @@ ghost use Rattle.std.specs.Prelude.{◌≤◌, length};
 ghost use Rattle.program_listing.specs.Turning.{turn_room};
 ghost use Rattle.schedule.specs.Clauses.{Filled};
 
-use libc::{STDIN_FILENO, STDOUT_FILENO};
 use program_listing::{Held, MOST_INPUT, Turned};
 use program_turn::TURN_ROOM;
+
+// Where input comes from and output goes to, by their numbers.
+const STDIN_FILENO: i32 = 0;
+
+const STDOUT_FILENO: i32 = 1;
 
 // One byte more than the program takes, so that too much input is seen.
 const INPUT_PLACES: usize = MOST_INPUT + 1;

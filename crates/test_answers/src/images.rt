@@ -1,7 +1,7 @@
 // A request of an image: its table, the number of its check, and the entries as a part of it.
+use crate::STDIN_FILENO;
 use crate::put::{put_answer, put_bytes, put_number, put_table};
 use crate::wire::next_number;
-use libc::STDIN_FILENO;
 
 // Some more than the longest image that is read.
 const IMAGE_PLACES: usize = 65600;

@@ -3,7 +3,6 @@
 #![tactic(auto)]
 
 use crate::wire::next_number;
-use libc::STDOUT_FILENO;
 
 mod images;
 mod put;
@@ -11,6 +10,11 @@ mod states;
 mod tables;
 mod taken;
 mod wire;
+
+// Where input comes from and output goes to, by their numbers.
+pub(crate) const STDIN_FILENO: i32 = 0;
+
+const STDOUT_FILENO: i32 = 1;
 
 // The longest answer, that to a state, has 1,577 numbers.
 const ANSWER_PLACES: usize = 16384;

@@ -1,8 +1,8 @@
 // A request of a state, a guest number and a number of ticks: every call that takes a state, each on that same state.
+use crate::STDIN_FILENO;
 use crate::put::{put_answer, put_number, put_numbers, put_state};
 use crate::taken::state_in;
 use crate::wire::number_at;
-use libc::STDIN_FILENO;
 use rules::{
     Activity, Asked, LINE_PLACES, Line, Margin, Outcome, Portion, Source, State, Use, Walk,
 };

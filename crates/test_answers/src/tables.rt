@@ -1,8 +1,8 @@
 // A request of a table and a buffer: the table's check, its fresh state, and its image written into the buffer.
+use crate::STDIN_FILENO;
 use crate::put::{put_answer, put_bytes, put_state};
 use crate::taken::table_in;
 use crate::wire::number_at;
-use libc::STDIN_FILENO;
 use rules::Table;
 
 const BUFFER_LENGTH: usize = 34;

@@ -17,8 +17,8 @@
 // not have is 0. An input that ends early, a request of another kind and one that is too long end the answers.
 ghost use Rattle.std.specs.Prelude.{◌<◌};
 
+use crate::STDIN_FILENO;
 use image_reader::word_at;
-use libc::STDIN_FILENO;
 
 const NUMBER_LENGTH: usize = 8;
 
