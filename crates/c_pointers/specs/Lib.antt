@@ -1,0 +1,2 @@
+-- What a function says of another one that it hands its pointers' values to.
+pub mod Forms
