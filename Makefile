@@ -12,7 +12,7 @@ test:
 	@tools/test
 
 lib:
-	@rt staticlib lomvadric
+	@tools/build lomvadric
 	@install -D -m 644 target/staticlib/liblomvadric.a target/lib/liblomvadric.a
 
 install:
@@ -20,7 +20,7 @@ install:
 
 valgrind:
 	@tools/x86 only 'make valgrind'
-	@rt staticlib lomvadric
+	@tools/build lomvadric
 	@tools/test_boot
 	@tools/valgrind_boot
 
@@ -31,14 +31,14 @@ bench:
 	@bench/program
 
 wrong:
-	@rt check test_answers schedule
-	@rt staticlib lomvadric
+	@tools/build test_answers schedule
+	@tools/build lomvadric
 	@tools/wrong_copies
 
 fuzz:
 	@tools/x86 only 'make fuzz'
-	@rt check schedule
-	@rt staticlib lomvadric
+	@tools/build schedule
+	@tools/build lomvadric
 	@tools/fuzz
 
 mutants:

@@ -1,4 +1,4 @@
-//! Tells the linker where liblomvadric.a is: in LOMVADRIC_ARCHIVES (seen from this folder), or where `rt staticlib` writes it. The archive is for
+//! Tells the linker where liblomvadric.a is: in LOMVADRIC_ARCHIVES (seen from this folder), or where `tools/build` writes it. The archive is for
 //! x86-64, so on another machine nothing is linked: see `archive_apart`.
 
 use std::env;

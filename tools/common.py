@@ -13,7 +13,7 @@ SIGNATURE = re.compile(r"(?P<kind>abbrev |unfoldable )?(?P<public>pub )?(?P<name
 NOMINAL = re.compile(r"(?P<public>pub )?(?P<kind>record|data) (?P<name>\S+)(?P<parameters>.*?) : (?P<type>Type \d+) where")
 HEADER = os.path.join(os.path.dirname(os.path.dirname(os.path.abspath(__file__))), "include", "lomvadric.h")
 TEXTS = re.compile(r"texts\[\] = \{\n(.*?)\n    \};", re.DOTALL)
-IMPORT = re.compile(r"(?:ghost )?use Rattle·(?P<crate>[a-z0-9_]+)(?:·specs)?\.specs\.(?P<file>[A-Za-z0-9_]+)\.\{(?P<names>[^}]*)\}")
+IMPORT = re.compile(r"(?:ghost )?use Rattle\.(?P<crate>[a-z0-9_]+)\.specs\.(?P<file>[A-Za-z0-9_]+)\.\{(?P<names>[^}]*)\}")
 
 
 class Edit(NamedTuple):
@@ -57,7 +57,7 @@ def read(path):
 def listed():
     """The crates of crates.txt, in its order, each with those that it builds on."""
     lines = [line.split("#")[0].strip() for line in read("crates.txt").splitlines()]
-    return {line.split(":")[0].strip(): line.split(":")[1].split() for line in lines if line}
+    return {line.split(":")[0].split()[0]: line.split(":")[1].split() for line in lines if line}
 
 
 def chosen(names):
