@@ -1,7 +1,6 @@
 // The declared types of a line of input. There is no code here: specs/ says what a line of input and a line of output are.
 #![tactic(auto)]
 
-
 // A call that a line names; the letters are `A`, `D` and `R`.
 #[derive(Clone, Copy)]
 pub enum Call {
