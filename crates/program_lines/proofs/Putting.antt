@@ -1,13 +1,13 @@
 -- Parts of a line put one behind the other, and the line that they make.
 use mathlib.Core.Path.{◌≡◌, refl, sym, ap, ◌∙◌}
-use mathlib.Core.Bool.{Bool, true, false, cond, not}
+use mathlib.Core.Bool.{Bool, true, false, cond}
 use mathlib.Core.List.{List, [], ◌∷◌, ◌++◌}
 use Prim.Native.Nat.{ℕ, ◌+◌, ◌-◌, ◌≤◌, ◌<◌}
 use native.Mathlib.Omega.{arith}
 use lib.Dec.{leb}
 use lib.ListN.{length, set, length-append}
 use lib.Seq.{sets, length-sets}
-use borrow.Author.Tests.{leb-true, le-leb, lt-leb, not-true, not-false}
+use borrow.Author.Tests.{le-leb, lt-leb}
 use Rattle.laws.proofs.Cases.{by_test, by_leb}
 use Rattle.laws.proofs.Parts.{stored_on}
 use Rattle.rules.specs.declared.Line.{Line as LinePlace}
@@ -35,10 +35,6 @@ part_on {front} {back} {before = before} {at = at} {to = to} p q =
 -- a part with room for more bytes
 pub part_within : {bytes : List ℕ} {most more : ℕ} {before after : List ℕ} {at r : ℕ} → most ≤ more → PartPut bytes most before at after r → PartPut bytes more before at after r
 part_within h p = record { content = p.content; behind = p.behind; short = omega (arith, p.short) }
-
--- the buffer is as long as before
-pub part_long : {bytes : List ℕ} {most : ℕ} {before after : List ℕ} {at r : ℕ} → PartPut bytes most before at after r → length after ≡ length before
-part_long {bytes} {before = before} {at = at} p = ap length p.content ∙ length-sets before at bytes
 
 -- ---- the parts of each line
 
@@ -75,22 +71,11 @@ module _ (room long filled : ℕ) where
 
 -- ---- the whole line
 
-module _ (buffer : List ℕ) (filled : ℕ) {room : Bool} (told : room ≡ has_room line_room (length buffer) filled) where
-  -- without room nothing is put
-  pub line_kept : not room ≡ true → (bytes : List ℕ) → LinePut bytes buffer filled buffer filled
-  line_kept e bytes =
-      let none : has_room line_room (length buffer) filled ≡ false = sym told ∙ not-true room e in
-      record { content = rw none refl; holds = rw none refl; short = omega arith }
-
-  module _ (e : not room ≡ false) where
-    pub room_long : filled + line_room ≤ length buffer
-    room_long = leb-true (filled + line_room) (length buffer) (sym told ∙ not-false room e)
-
-    -- with room all of it is
-    pub line_put : {bytes after : List ℕ} {r : ℕ} → PartPut bytes line_room buffer filled after r → LinePut bytes buffer filled after r
-    line_put p =
-        let some : has_room line_room (length buffer) filled ≡ true = sym told ∙ not-false room e in
-        record { content = rw some p.content; holds = rw some p.behind; short = omega (arith, p.behind, p.short) }
+-- with room all of it is put
+pub line_put : (buffer : List ℕ) (filled : ℕ) {room : Bool} → room ≡ has_room line_room (length buffer) filled → room ≡ true → {bytes after : List ℕ} {r : ℕ} → PartPut bytes line_room buffer filled after r → LinePut bytes buffer filled after r
+line_put buffer filled told e p =
+    let some : has_room line_room (length buffer) filled ≡ true = sym told ∙ e in
+    record { content = rw some p.content; holds = rw some p.behind; short = omega (arith, p.behind, p.short) }
 
 -- with room or without, the buffer is as long as before
 pub line_long : {bytes buffer after : List ℕ} {filled r : ℕ} → LinePut bytes buffer filled after r → length after ≡ length buffer

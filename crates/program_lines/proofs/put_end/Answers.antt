@@ -1,0 +1,8 @@
+-- `program_lines::put_end` meets its contract: the tick stands behind its word.
+use Rattle.program_lines.proofs.Putting.{end_parts, line_put}
+use Rattle.program_lines.proofs.put_end.Goals as goal
+
+pub returns : goal.returns
+returns c =
+    line_put c.args.buffer.now c.args.filled c.has_room.ensures c.if-not-has_room.false
+    (end_parts c.args.buffer.now c.args.filled c.args.tick c.put_closed.ensures)
