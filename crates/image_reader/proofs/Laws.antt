@@ -9,7 +9,7 @@ use borrow.Author.Tests.{le-leb, lt-leb}
 use lib.ListN.{length, get_or}
 use lib.Seq.{drop-cons}
 use Rattle.rules.specs.Image.{field}
-use Rattle.image_reader.specs.Clauses.{number_at, behind_of}
+use Rattle.image_reader.specs.Clauses.{number_at, behind_of, NumberRead}
 
 module _ (bytes : List ℕ) where
   -- the one law over the bytes: the first two, and the field behind them
@@ -47,3 +47,7 @@ module _ (at width : ℕ) where
   pub behind_out : 2 ^ 64 ≤ at + width → 2 ^ 64 - 1 ≡ behind_of at width
   unfolding behind_of
   behind_out h = simp (lt-leb (at + width) (2 ^ 64 - 1) (omega arith))
+
+-- a number read at a place of a list is read there under the place's and the list's other names
+pub read_there : (width : ℕ) {l image : List ℕ} {at place r : ℕ} → l ≡ image → at ≡ place → NumberRead width l at r → NumberRead width image place r
+read_there width e f h = (rw (← e, ← f) h.0, h.1)

@@ -1,8 +1,4 @@
--- Laws of numbers in bytes, and what the proofs by hand over a reader are made of.
-pub mod Asking
+-- Laws of numbers in bytes, and that what is read is held and unique.
 pub mod Held
 pub mod Laws
-pub mod Locals
-pub mod Moving
 pub mod Unique
-pub mod ByHand
