@@ -1,0 +1,7 @@
+-- `image_loading::entries_of`: the entry read fills the next place.
+use native.Mathlib.Omega.{arith}
+use Rattle.image_loading.proofs.Reading.{filled_more}
+use Rattle.image_loading.proofs.entries_of.Goals as goal
+
+pub loop-i-preserved : goal.loop-i-preserved
+loop-i-preserved c = record { in_range = omega arith; filled = filled_more c.loop-i.invariant.filled _ c.entry_at-e.ensures (omega arith) }
