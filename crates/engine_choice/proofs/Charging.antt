@@ -10,7 +10,6 @@ use borrow.Author.Tests.{le-leb, lt-leb}
 use Rattle.laws.specs.Lists.{changed}
 use Rattle.laws.proofs.Cases.{by_leb}
 use Rattle.rules.specs.declared.Spare.{Spare as SparePlace}
-use Rattle.rules.specs.declared.Source.{Source as DeclaredSource}
 use Rattle.rules.specs.declared.Source.TheVariants.{Own, SpareOf}
 use Rattle.rules.specs.declared.Portion.{Portion as DeclaredPortion}
 use Rattle.rules.specs.declared.Portion.TheVariants.{Run, Burn, Nothing}
@@ -22,7 +21,7 @@ use Rattle.rules.specs.Steps.{picked, own_budget, spare_of, runs, limited, Porti
 use Rattle.promises.specs.Spans.{Within}
 use Rattle.promises.proofs.Spans.{limited_same}
 use Rattle.engine_choice.specs.declared.Charge.{Charge}
-use Rattle.engine_choice.specs.Clauses.{first_of, removed_by, run_charge, charge_of}
+use Rattle.engine_choice.specs.Clauses.{first_of, removed_by, charge_of}
 
 -- ---- what comes next
 
@@ -32,13 +31,6 @@ module _ (i d c : ℕ) (x : SparePlace) where
 
   pub spare_later : d < x.deadline → portion (runs i own_budget) d (limited c) ≡ portion_for (picked i d c) (first_of true x)
   spare_later h = rw (lt-leb x.deadline d h)
-
--- ---- what is charged
-
-pub run_charged : (source : DeclaredSource) (i d span left last : ℕ) {n removed : ℕ} → n ≡ min left span → removed ≡ removed_by n span
-    → run_charge source i n removed ≡ charge_of left last (Run i source d span)
-run_charged Own i d span left last e f = rw e
-run_charged (SpareOf owner) i d span left last e f = rw (f, e)
 
 -- ---- the charge of a portion that is next
 

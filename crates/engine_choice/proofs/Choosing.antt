@@ -21,13 +21,9 @@ use Rattle.engine_choice.specs.Choice.{shown, in_use}
 
 -- ---- an active guest
 
-pub bit-active : (j : ℕ) → (j ≡ 0 → ⊥) → 1 ≡ bit_of (guest 0 0 j 0 0 0 0)
-bit-active zero h = absurd (h refl)
-bit-active (suc j) h = refl
-
-pub ready-active : (i j c d : ℕ) → (j ≡ 0 → ⊥) → picked i d c ≡ ready i (guest 0 0 j c d 0 0)
-ready-active i zero c d h = absurd (h refl)
-ready-active i (suc j) c d h = refl
+pub ready-active : (i Q T j c d own borrowed : ℕ) → (j ≡ 0 → ⊥) → picked i d c ≡ ready i (guest Q T j c d own borrowed)
+ready-active i Q T zero c d own borrowed h = absurd (h refl)
+ready-active i Q T (suc j) c d own borrowed h = refl
 
 -- ---- the guests in use, without their entries and with them
 
