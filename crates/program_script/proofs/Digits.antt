@@ -3,7 +3,7 @@ use mathlib.Core.Path.{◌≡◌, refl, sym, ap, ◌∙◌}
 use mathlib.Core.Bool.{Bool, true, false, cond, not, ◌&&◌, ◌||◌, and-false}
 use mathlib.Core.List.{List, [], ◌∷◌}
 use Prim.Native.Nat.{ℕ, zero, suc, ◌+◌, ◌-◌, ◌*◌, ◌^◌, ◌≤◌, ◌<◌}
-use native.Mathlib.Nat.{add-zero, sub_self, pow-suc, pow-le-pow_right}
+use native.Mathlib.Nat.{add-zero, pow-suc, pow-le-pow_right}
 use native.Mathlib.Numerals.{add-one}
 use native.Mathlib.Omega.{arith}
 use lib.Dec.{leb, eqb}
@@ -11,22 +11,13 @@ use lib.ListN.{length, get_or, take, drop, drop_of_length-le}
 use lib.Seq.{drop-cons, drop-drop, get_or-drop, slice, slice-cons, slice_empty}
 use borrow.Author.Tests.{leb-true, le-leb, lt-leb, ne_eqb}
 use Rattle.laws.proofs.Parts.{part_slice}
-use Rattle.laws.proofs.Cases.{and_both, and_intro, by_test}
+use Rattle.laws.proofs.Cases.{and_both}
 use Rattle.program_script.specs.declared.Number.{Number}
 use Rattle.laws.specs.Digits.{value_in}
 use Rattle.program_text.specs.Numbers.{most_digits, is_digit, digits_in, well_formed, Got, no_number, got, number_at}
 use Rattle.program_script.specs.Inner.{got_in}
 
 -- ---- a digit
-
-pub digit : (b : ℕ) → 48 ≤ b → b ≤ 57 → true ≡ is_digit b
-digit b h l = sym (and_intro (le-leb 48 b h) (le-leb b 57 l))
-
-pub below_digits : (b : ℕ) → b < 48 → false ≡ is_digit b
-below_digits b h = rw (lt-leb 48 b h)
-
-pub above_digits : (b : ℕ) → 57 < b → false ≡ is_digit b
-above_digits b h = by_test (λ t. false ≡ t && leb b 57) (leb 48 b) (λ _. rw (lt-leb b 57 h)) (λ _. refl)
 
 pub digit_low : (b : ℕ) → is_digit b ≡ true → 48 ≤ b
 digit_low b h = leb-true 48 b (and_both (leb 48 b) (leb b 57) h).0
@@ -45,9 +36,6 @@ pub record Counted (l : List ℕ) (at i : ℕ) : Type 0 where
   pub low : at ≤ i
   pub high : i ≤ length l
   pub so : at + digits_in (drop at l) ≡ i + digits_in (drop i l)
-
-pub counted_start : (l : List ℕ) (at : ℕ) → at ≤ length l → Counted l at at
-counted_start l at h = record { low = omega arith; high = h; so = refl }
 
 module _ {l : List ℕ} {at i : ℕ} (c : Counted l at i) where
   pub counted_more : {t : Bool} → t ≡ is_digit (get_or l i 0) → t ≡ true → i < length l → Counted l at (i + 1)
@@ -96,9 +84,6 @@ pub record Valued (l : List ℕ) (at end i value : ℕ) : Type 0 where
   pub high : i ≤ end
   pub small : value < 10 ^ (i - at)
   pub so : value_in value (slice i end l) ≡ value_in 0 (slice at end l)
-
-pub valued_start : (l : List ℕ) (at end : ℕ) → at ≤ end → Valued l at end at 0
-valued_start l at end h = record { low = omega arith; high = h; small = rw (sub_self at) (omega arith); so = refl }
 
 module _ {l : List ℕ} {at end i value : ℕ} (v : Valued l at end i value) (whole : end ≡ at + digits_in (drop at l)) (inside : end ≤ length l) (h : i < end) where
   pub valued_digit : is_digit (get_or l i 0) ≡ true

@@ -2,29 +2,16 @@
 use mathlib.Core.Path.{◌≡◌, refl, sym, ap, ◌∙◌}
 use mathlib.Core.Bool.{Bool, true, false, cond}
 use mathlib.Core.List.{List, [], ◌∷◌}
-use Prim.Native.Nat.{ℕ, ◌-◌, ◌<◌}
-use native.Mathlib.Nat.{add-zero}
+use Prim.Native.Nat.{ℕ, ◌<◌}
 use native.Mathlib.Omega.{arith}
-use lib.Dec.{eqb}
-use lib.ListN.{length, get_or, drop, length-drop}
-use lib.Seq.{drop-cons, get_or-drop}
+use lib.ListN.{length, get_or, drop}
+use lib.Seq.{drop-cons}
 use borrow.Author.Tests.{ne_eqb}
 use Rattle.program_script.specs.declared.Number.{Number}
 use Rattle.program_text.specs.declared.Line.TheVariants.{Guest, Malformed}
 use Rattle.program_text.specs.Numbers.{Got, no_number, got, number_at}
-use Rattle.program_text.specs.Script.{ends, ended, last_at, guest_end, guest_line, line_with, one_line, line_of}
+use Rattle.program_text.specs.Script.{ends, ended, last_at, guest_end, guest_line, one_line, line_of}
 use Rattle.program_script.specs.Inner.{got_in}
-
--- ---- the end
-
-module _ (l : List ℕ) (at : ℕ) where
-  pub ends-not : (length l - at ≡ 1 → ⊥) → false ≡ ends (drop at l)
-  ends-not n = rw (length-drop at l, ne_eqb (length l - at) 1 n)
-
-  pub ends-told : length l - at ≡ 1 → eqb (get_or l at 0) 10 ≡ ends (drop at l)
-  ends-told e =
-      let first : get_or (drop at l) 0 0 ≡ get_or l at 0 = get_or-drop at l 0 0 ∙ ap (λ (k : ℕ). get_or l k 0) (add-zero at) in
-      rw (length-drop at l, e, first)
 
 -- ---- what was read
 
@@ -67,23 +54,6 @@ module _ (l bs : List ℕ) (n : Number) (e : got_in l n ≡ number_at bs) where
     pub guest_whole : p.ok ≡ true → Guest n.value p.value ≡ guest_line (number_at bs)
     unfolding guest_line
     guest_whole k = ap (guest_end n.value) (read_got l p f k) ∙ ap guest_line (read_got l n e h)
-
--- ---- a line with one number
-
-module _ (letter value : ℕ) where
-  -- a letter that is known
-  pub with_letter : (n : ℕ) → letter ≡ n → line_with n value ≡ line_with letter value
-  with_letter n e = rw e
-
-  pub with_none : (letter ≡ 70 → ⊥) → (letter ≡ 65 → ⊥) → (letter ≡ 68 → ⊥) → (letter ≡ 82 → ⊥) → Malformed ≡ line_with letter value
-  with_none a b c d = rw (ne_eqb letter 70 a, ne_eqb letter 65 b, ne_eqb letter 68 c, ne_eqb letter 82 d)
-
-module _ (letter : ℕ) (l bs : List ℕ) (n : Number) (e : got_in l n ≡ last_at bs) where
-  pub one_none : n.ok ≡ false → Malformed ≡ one_line letter (last_at bs)
-  one_none h = ap (one_line letter) (read_none l n e h)
-
-  pub one_got : n.ok ≡ true → line_with letter n.value ≡ one_line letter (last_at bs)
-  one_got h = ap (one_line letter) (read_got l n e h)
 
 -- ---- the whole line
 
