@@ -1,20 +1,15 @@
 -- Deadlines as plain numbers decide as the guests do.
 use mathlib.Core.Path.{◌≡◌, refl, ◌∙◌}
 use mathlib.Core.Bool.{not, cond, ◌&&◌, ◌||◌}
-use mathlib.Core.List.{List, [], ◌∷◌, ◌++◌, map, map-append, append-nil}
-use Prim.Native.Nat.{ℕ, zero, suc, ◌+◌, ◌-◌, ◌≤◌, ◌<◌}
-use native.Mathlib.Numerals.{add-one}
+use mathlib.Core.List.{List, [], ◌∷◌, map}
+use Prim.Native.Nat.{ℕ, zero, suc, ◌≤◌, ◌<◌}
 use native.Mathlib.Omega.{arith}
 use lib.Count.{count_trailing_zeros}
 use lib.Dec.{ltb, eqb, eqb-suc-zero}
-use lib.ListN.{length, get_or, take, drop, set, replicate, length-map}
-use lib.Seq.{take-suc, take_all, length-take-le}
+use lib.ListN.{length, get_or, drop}
 use borrow.Author.Tests.{lt-ltb, le-ltb}
-use Rattle.laws.specs.Lists.{padded}
 use Rattle.laws.proofs.Cases.{by_ltb}
-use Rattle.laws.proofs.Places.{set_padded}
 use Rattle.rules.specs.declared.Guest.{Guest as GuestPlace}
-use Rattle.rules.specs.Limits.{guest_places}
 use Rattle.rules.specs.Model.{Guest, mask_of}
 use Rattle.rules.specs.Places.{no_guest_place}
 use Rattle.rules.specs.Steps.{earliest}
