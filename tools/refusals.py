@@ -49,6 +49,24 @@ INCOMPLETE = re.compile(r"`search`: no proof of|It passed over \d+ in reach")
 UNPROVED = "it is not proved that what the function ensures holds when it returns"
 
 
+# What rt tells of an edit that it tried, in one line.
+TOLD = re.compile(r"^(?:rt: )?must-fail (?P<crate>[a-z0-9_]+)/(?P<label>[\w.-]+)\.edit: (?P<rest>.*)$", re.MULTILINE)
+AS_IT_MUST = re.compile(r"refused, as it must be(?: \((?P<only>only [^)]*)\)?)?(?:: (?P<text>.*))?")
+NAMES_GONE = "only because a proof file names what the edit took away"
+# What it says of a goal at whose values it fails.
+ALLOWED = "the facts known there allow values at which this goal"
+
+
+class Told(NamedTuple):
+    """What rt told of an edit: whether it could be tried, whether it was refused, why the refusal says less, and its first error."""
+
+    crate: str
+    bad: bool
+    refused: bool
+    only: str
+    text: str
+
+
 class Refusal(NamedTuple):
     """The class of an error and where it stands."""
 
@@ -135,3 +153,33 @@ def refusal_of(log, crate, theorems):
         name = re.match(r"`[^`]*`", text)
         found.append(Refusal(theorems.strength_of(text, theorems.around(place, crate), theorems.is_computed(place, crate)), short + (f" {name[0]}" if name else ""), text))
     return min(found, key=lambda one: CLASSES.index(one.strength), default=Refusal(NONE, "", "no error in the log"))
+
+
+def told_in(log):
+    """What rt told of each edit, by crate and label."""
+    found = {}
+    for line in TOLD.finditer(log):
+        said = AS_IT_MUST.match(line["rest"])
+        bad = "BAD EDIT" in line["rest"] or "NOT TRIED" in line["rest"]
+        found[line["crate"], line["label"]] = Told(line["crate"], bad, bool(said), (said["only"] or "") if said else "", (said["text"] or "") if said else line["rest"])
+    return found
+
+
+def refusal_told(told, theorems):
+    """How an edit was refused, by its first error: rt tells no more of it."""
+    if told.bad or not told.refused:
+        return Refusal(NONE, "", told.text)
+    place, _, text = re.sub(r"^(note: )?(\./)?", "", told.text).partition(": ")
+    name = re.search(r"`[^`]*`", text)
+    shown = place + (f" {name[0]}" if name else "")
+    if told.only:
+        return Refusal(SHAPE, shown, told.only)
+    if ALLOWED in text:
+        return Refusal(COUNTEREXAMPLE, shown, text)
+    theorem = theorems.around(place, told.crate)
+    words = theorem.type.split() if theorem else []
+    if len(words) == 2 and words[0] == "Hold" and words[1] in theorems.rows:
+        return Refusal(ROW, shown, text)
+    if len(words) == 1 and words[0] in theorems.statements:
+        return Refusal(ROW if theorems.is_computed(place, told.crate) else PROMISE, shown, text)
+    return Refusal(GOAL if place else NONE, shown, text)
