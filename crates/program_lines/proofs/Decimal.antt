@@ -3,8 +3,8 @@ use mathlib.Core.Path.{◌≡◌, refl, sym, ap, ◌∙◌}
 use mathlib.Core.List.{List, [], ◌∷◌, ◌++◌, append_assoc, append-nil}
 use Prim.Native.Nat.{ℕ, suc, ◌+◌, ◌-◌, ◌/◌, ◌%◌, ◌≤◌, ◌<◌}
 use native.Mathlib.Omega.{arith}
-use lib.ListN.{length, set}
-use lib.Seq.{sets, length-sets}
+use lib.ListN.{set}
+use lib.Seq.{sets}
 use Rattle.laws.proofs.Parts.{stored_before}
 use Rattle.program_text.specs.Decimal.{last_digits, digit_count, decimal}
 use Rattle.program_text.proofs.Decimal.{count_small, count_some, count_tenth}
@@ -16,9 +16,6 @@ pub record Counted (n count rest : ℕ) : Type 0 where
   pub of : ℕ
   pub before : rest ≡ of / 10
   pub so : count + digit_count of ≡ suc (digit_count n)
-
-pub counted_start : (n : ℕ) → Counted n 1 (n / 10)
-counted_start n = record { of = n; before = refl; so = omega arith }
 
 module _ {n count rest : ℕ} (c : Counted n count rest) where
   pub counted_few : count ≤ digit_count n
@@ -48,9 +45,6 @@ stored_start n before at end e =
     record { low = omega arith; behind = []; whole = rw count (append-nil (decimal n)); so = refl }
 
 module _ {n : ℕ} {before : List ℕ} {at i rest : ℕ} {after : List ℕ} (s : Stored n before at i rest after) where
-  pub stored_long : length after ≡ length before
-  stored_long = ap length s.so ∙ length-sets before i s.behind
-
   pub stored_more : {j : ℕ} → i ≡ suc j → at < i → Stored n before at j (rest / 10) (set after j (48 + rest % 10))
   unfolding last_digits
   stored_more {j} e h =

@@ -1,14 +1,12 @@
 -- Parts of a line put one behind the other, and the line that they make.
 use mathlib.Core.Path.{◌≡◌, refl, sym, ap, ◌∙◌}
-use mathlib.Core.Bool.{Bool, true, false, cond}
+use mathlib.Core.Bool.{Bool, true, cond}
 use mathlib.Core.List.{List, [], ◌∷◌, ◌++◌}
-use Prim.Native.Nat.{ℕ, ◌+◌, ◌-◌, ◌≤◌, ◌<◌}
+use Prim.Native.Nat.{ℕ, ◌+◌, ◌≤◌}
 use native.Mathlib.Omega.{arith}
-use lib.Dec.{leb}
 use lib.ListN.{length, set, length-append}
 use lib.Seq.{sets, length-sets}
-use borrow.Author.Tests.{le-leb, lt-leb}
-use Rattle.laws.proofs.Cases.{by_test, by_leb}
+use Rattle.laws.proofs.Cases.{by_test}
 use Rattle.laws.proofs.Parts.{stored_on}
 use Rattle.rules.specs.declared.Line.{Line as LinePlace}
 use Rattle.program_text.specs.Decimal.{decimal}
@@ -56,18 +54,6 @@ module _ (before : List ℕ) (filled : ℕ) {after : List ℕ} {r : ℕ} where
       (part_on (part_byte 101 before filled refl)
       (part_on (part_byte 110 (set before filled 101) (filled + 1) (omega arith))
       (part_on (part_byte 100 (set (set before filled 101) (filled + 1) 110) (filled + 2) (omega arith)) number)))
-
--- ---- room for so many bytes
-
-module _ (room long filled : ℕ) where
-  pub room_none : long < room → false ≡ leb (filled + room) long
-  room_none h = sym (lt-leb (filled + room) long (omega arith))
-
-  pub room_told : room ≤ long → leb filled (long - room) ≡ leb (filled + room) long
-  room_told h =
-      by_leb (λ t. t ≡ leb (filled + room) long) filled (long - room)
-      (λ low. sym (le-leb (filled + room) long (omega arith)))
-      (λ high. sym (lt-leb (filled + room) long (omega arith)))
 
 -- ---- the whole line
 
