@@ -13,20 +13,18 @@ use lib.Seq.{drop-drop}
 use Rattle.laws.specs.Lists.{padded}
 use Rattle.laws.proofs.Places.{set_padded}
 use Rattle.rules.specs.declared.Entry.{Entry}
-use Rattle.rules.specs.declared.Table.{Table}
-use Rattle.rules.specs.declared.Refusal.{Refusal}
 use Rattle.rules.specs.declared.Answer.{Answer}
-use Rattle.rules.specs.declared.Answer.TheVariants.{Went, Refused}
+use Rattle.rules.specs.declared.Answer.TheVariants.{Went}
 use Rattle.rules.specs.declared.Loaded.{Loaded}
 use Rattle.rules.specs.Limits.{guest_places, shortest_image, longest_image}
-use Rattle.rules.specs.Refusals.{Row, ◌gives◌, first, outside, refusal_number, number_of}
+use Rattle.rules.specs.Refusals.{Row, ◌gives◌, first, outside, number_of}
 use Rattle.rules.specs.Table.{no_entry, no_table, count_row, range_rows, table_rows}
 use Rattle.rules.specs.Image.{entry_bytes, trailer_bytes, field, trailer_at, frame_in, offset_in, count_in, edition_in, entry_in, entries_in, entries_part, table_in, read_rows}
 use Rattle.rules.specs.Calls.{kept, TableRead, EntriesHanded}
 use Rattle.promises.proofs.Refusing.{given_here, given-later}
 use Rattle.promises.proofs.GoodTable.{not-outside}
 use Rattle.promises.proofs.Images.{entries_in_long, readable}
-use Rattle.promises.proofs.Outcomes.{one_outcome, refusal_counts, kept_back}
+use Rattle.promises.proofs.Outcomes.{one_outcome}
 use Rattle.image_reader.specs.declared.Trailer.{Trailer}
 use Rattle.image_reader.specs.Clauses.{number_at, behind_of, TrailerRead}
 use Rattle.image_loading.specs.Clauses.{EntriesPart}
@@ -54,9 +52,6 @@ entries_more (suc n) part =
 pub record Filled (part : List ℕ) (entries : List Entry) (i : ℕ) : Type 0 where
   pub so : entries ≡ padded guest_places no_entry (entries_in i part)
 
-pub filled_start : (part : List ℕ) (entries : List Entry) → entries ≡ padded guest_places no_entry [] → Filled part entries 0
-filled_start part entries e = record { so = e }
-
 pub filled_more : {part : List ℕ} {entries : List Entry} {i : ℕ} → Filled part entries i → (e : Entry) → e ≡ entry_in (drop (8 * i) part) → i < guest_places → Filled part (set entries i e) (i + 1)
 filled_more {part} {entries} {i} f e q h =
     record {
@@ -67,9 +62,6 @@ filled_more {part} {entries} {i} f e q h =
           ∙ ap (λ (l : List Entry). padded guest_places no_entry l) (sym (entries_more i part))
           ∙ ap (λ (k : ℕ). padded guest_places no_entry (entries_in k part)) (sym (add-one i));
     }
-
-pub filled_end : {part : List ℕ} {entries : List Entry} {i : ℕ} → Filled part entries i → (n : ℕ) → i ≡ n → entries ≡ padded guest_places no_entry (entries_in n part)
-filled_end {part} f n e = f.so ∙ ap (λ (k : ℕ). padded guest_places no_entry (entries_in k part)) e
 
 -- ---- the rows of a reading, one after the other
 
@@ -82,9 +74,6 @@ module _ (image : List ℕ) where
 
   abbrev rows_9 : List Row
   rows_9 = not (eqb (edition_in image) 1) gives 9 ∷ count_row (table_in image) ∷ rows_11
-
-  pub gives_8 : outside shortest_image longest_image (length image) ≡ true → 8 ≡ first (read_rows image)
-  gives_8 h = given_here (outside shortest_image longest_image (length image)) 8 rows_9 h
 
   module _ (low : shortest_image ≤ length image) (high : length image ≤ longest_image) where
     past_8 : {m : ℕ} → m ≡ first rows_9 → m ≡ first (read_rows image)
@@ -162,31 +151,11 @@ table_whole image t w entries e =
     let all : entries ≡ padded guest_places no_entry (entries_in (count_in image) (entries_part image)) = rw (w.offset, w.count, part_between image ends) at e in
     λ i. record { frame = frame i; count = count i; entries = all i }
 
--- ---- the table's own check
-
-pub tested_refused : (table none : Table) (a : Answer) (r : Refusal) → number_of a ≡ first (table_rows table) → a ≡ Refused r → none ≡ no_table → Tested table (record { answer = a; table = none })
-tested_refused table none a r e h gone =
-    let number : first (table_rows table) ≡ refusal_number r = sym e ∙ ap number_of h in
-    record {
-      answer = e;
-      table_kept = gone ∙ sym (kept_back (first (table_rows table)) table no_table (rw number (refusal_counts r)));
-    }
-
-pub tested_went : (table : Table) (a : Answer) → number_of a ≡ first (table_rows table) → a ≡ Went → Tested table (record { answer = a; table = table })
-tested_went table a e h =
-    let number : first (table_rows table) ≡ 0 = sym e ∙ ap number_of h in
-    record { answer = e; table_kept = rw number }
-
 -- ---- the entries that are handed on
 
 -- the number of an answer that went, or did not
 pub went_number : {n : ℕ} (a : Answer) → number_of a ≡ n → a ≡ Went → n ≡ 0
 went_number a e h = sym e ∙ ap number_of h
-
-pub refused_hands : (image : List ℕ) (a : Answer) (r : Refusal) → number_of a ≡ first (read_rows image) → a ≡ Refused r → EntriesHanded image 0 []
-refused_hands image a r e h =
-    let above : 0 < first (read_rows image) = rw (← (sym (ap number_of h) ∙ e)) (refusal_counts r) in
-    record { place = sym (kept_back (first (read_rows image)) (offset_in image) 0 above); bytes = sym (kept_back (first (read_rows image)) (entries_part image) [] above) }
 
 pub went_hands : (image : List ℕ) (t : Trailer) → first (read_rows image) ≡ 0 → Numbers image t → EntriesHanded image t.offset (take (length image - 12 - t.offset) (drop t.offset image))
 went_hands image t e n =

@@ -6,13 +6,12 @@ use native.Mathlib.Numerals.{add-one}
 use native.Mathlib.Omega.{arith}
 use lib.Dec.{ltb}
 use lib.ListN.{length, get_or, take}
-use lib.Seq.{take-suc, length-take-le, sets, length-sets}
-use borrow.Author.Tests.{lt-ltb, le-ltb}
+use lib.Seq.{take-suc, length-take-le, sets}
+use borrow.Author.Tests.{le-ltb}
 use Rattle.laws.proofs.Parts.{stored_on, stored_front}
 use Rattle.rules.specs.declared.Entry.{Entry}
 use Rattle.rules.specs.declared.Table.{Table}
 use Rattle.rules.specs.declared.Refusal.{Refusal}
-use Rattle.rules.specs.declared.Refusal.TheVariants.{BufferShort}
 use Rattle.rules.specs.declared.Answer.{Answer}
 use Rattle.rules.specs.declared.Answer.TheVariants.{Went, Refused}
 use Rattle.rules.specs.Refusals.{Row, ◌gives◌, first, number_of}
@@ -45,12 +44,6 @@ module _ (es : List Entry) (before : List ℕ) (i : ℕ) {after : List ℕ} (s :
       let end : 0 + length front ≡ 8 * i = omega (arith, entries_image_long (take i es), length-take-le i es (omega arith)) in
       record { so = rw (entries_more es i h) (stored_on before 0 (8 * i) front (entry_image (get_or es i no_entry)) end s.so e) }
 
-  pub stored_end : (n : ℕ) → i ≡ n → after ≡ sets before 0 (entries_image (take n es))
-  stored_end n e = s.so ∙ ap (λ (k : ℕ). sets before 0 (entries_image (take k es))) e
-
-  pub stored_long : length after ≡ length before
-  stored_long = ap length s.so ∙ length-sets before 0 (entries_image (take i es))
-
 -- ---- the answers
 
 -- 15: "write buffer shorter than 8n + 12"
@@ -69,11 +62,6 @@ module _ (t : Table) (buffer : List ℕ) where
     -- only the buffer's length is left to refuse
     by_length : first (write_rows t buffer) ≡ first (length_row t buffer ∷ [])
     by_length = first-behind (table_rows t) (length_row t buffer ∷ []) (clear (table_rows t) refl none)
-
-    pub buffer_refused : length buffer < image_length t → TableWritten t buffer (Refused BufferShort) buffer
-    buffer_refused h =
-        let given : first (write_rows t buffer) ≡ 15 = by_length ∙ rw (lt-ltb (length buffer) (image_length t) h) in
-        record { answer = sym given; content = rw given }
 
     -- the entries and a trailer behind them are the table's image
     pub written : {entries after : List ℕ} → image_length t ≤ length buffer → entries ≡ sets buffer 0 (entries_image (entries_of t))

@@ -2,8 +2,11 @@
 use mathlib.Core.Path.{sym, ap, ◌∙◌}
 use native.Mathlib.Omega.{arith}
 use Rattle.rules.specs.Refusals.{number_of}
-use Rattle.image_storing.proofs.Storing.{written}
+use Rattle.image_storing.proofs.Storing.{table-refused, written}
 use Rattle.image_storing.proofs.write.Goals as goal
+
+pub returns-in_default : goal.returns-in_default
+returns-in_default c = table-refused c.args.t c.args.buffer.now c.in_default.is c.check-answer.ensures.answer
 
 pub returns : goal.returns
 returns c =
