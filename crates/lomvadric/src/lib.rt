@@ -63,7 +63,7 @@ pub extern "C" fn lomvadric_walk(state: &mut State, ticks: u64) -> WalkShown
 // What the next tick would do; nothing after a refusal.
 #[unsafe(no_mangle)]
 pub extern "C" fn lomvadric_ask(state: &State) -> Next
-    ensures { NextTold state.now result }
+    ensures { NextTold state.entry.now result }
 {
     c_calls::ask(*state)
 }
@@ -71,7 +71,7 @@ pub extern "C" fn lomvadric_ask(state: &State) -> Next
 // Who is active; nobody after a refusal.
 #[unsafe(no_mangle)]
 pub extern "C" fn lomvadric_active(state: &State) -> Actives
-    ensures { ActivesTold state.now result }
+    ensures { ActivesTold state.entry.now result }
 {
     c_calls::active(*state)
 }
@@ -79,7 +79,7 @@ pub extern "C" fn lomvadric_active(state: &State) -> Actives
 // How far ahead a guest's deadline lies; below zero where it has passed, and 0 after a refusal.
 #[unsafe(no_mangle)]
 pub extern "C" fn lomvadric_margin(state: &State, guest: usize) -> Distance
-    ensures { DistanceTold state.now guest result }
+    ensures { DistanceTold state.entry.now guest result }
 {
     c_calls::margin(*state, guest)
 }
