@@ -78,6 +78,20 @@ def edits(crate, folder="must-fail"):
     return found
 
 
+def edited(crate, text):
+    """The files of a crate, by path, as an edit of this text makes them."""
+    texts, file, old = {}, "", ""
+    for line in text.splitlines():
+        if line.startswith("file: "):
+            file = line[len("file: ") :].strip()
+            texts.setdefault(file, read(f"crates/{crate}/{file}"))
+        elif line.startswith("old: "):
+            old = line[len("old: ") :]
+        elif line.startswith("new:"):
+            texts[file] = texts[file].replace(old, line[len("new:") :].removeprefix(" "))
+    return texts
+
+
 def whole_type(lines, at, first):
     """A stated type with the indented lines that it goes on in."""
     behind = at + 1

@@ -36,7 +36,7 @@ SHAPES = re.compile(
     r"|no occurrence|unsolved|was not determined|no proof: expected|step limit|Parse|parse|layout"
 )
 # What it says where it has numbers that decide: of a goal over variables, of two types that differ in one place, of an equation of values.
-VARIABLE = r"`[\w′'-]+(?: \.[\w-]+)*`"
+VARIABLE = r"`[\w'-]+(?:\.[\w-]+)*`"
 FAILS_AT = re.compile(rf"(?:goal|part) fails, at {VARIABLE}\s*= \d+(?:, {VARIABLE}\s*= \d+)*(?:\.|, and 0 for every other atom\.) ")
 VALUE = r"(?:\d[\d_]*|true|false)"
 WRITTEN_OUT = r"(?:[A-Z]\w*|\d[\d_]*|true|false|\([A-Z]\w*(?: [A-Z]\w*| \d[\d_]*)*\))"
