@@ -3,7 +3,6 @@ use mathlib.Core.Path.{◌≡◌, refl, sym, ap₂}
 use mathlib.Core.Bool.{true, false, ◌&&◌}
 use mathlib.Core.List.{List, [], ◌∷◌}
 use Prim.Native.Nat.{ℕ, zero, suc, ◌+◌, ◌≤◌, ◌<◌, ◌^◌, max}
-use native.Mathlib.Numerals.{add-one}
 use native.Mathlib.Omega.{arith}
 use lib.Count.{ones}
 use lib.Dec.{ltb, eqb}
@@ -12,7 +11,7 @@ use borrow.Author.Tests.{eq-eqb, ne_eqb, lt-ltb, le-ltb}
 use Rattle.rules.specs.declared.Entry.{Entry}
 use Rattle.rules.specs.declared.Guest.{Guest as GuestPlace}
 use Rattle.rules.specs.declared.State.{State}
-use Rattle.rules.specs.Calls.{named, guest_row, arrive_rows}
+use Rattle.rules.specs.Calls.{named, arrive_rows}
 use Rattle.rules.specs.Limits.{spare_places, most_jobs, deadline_cap}
 use Rattle.rules.specs.Model.{Guest, guest, jobs_of, deadline_of, idle_guest, mask_of, occupied}
 use Rattle.rules.specs.Places.{model, guest_of, guest_place, packed}
@@ -25,7 +24,7 @@ use Rattle.engine_choice.specs.Choice.{in_use}
 use Rattle.engine_choice.proofs.Choosing.{count_active}
 use Rattle.engine_state.proofs.Answering.{mask_told}
 use Rattle.engine_time.proofs.Placing.{entry_at, place_at, Here, spares_count, guests_long, entries_long, guest_here, guest_good, guest_stored}
-use Rattle.engine_time.proofs.Rows.{gives_1, gives_2, past_2}
+use Rattle.engine_time.proofs.Rows.{past_2}
 
 -- ---- the guest
 
@@ -52,12 +51,6 @@ module _ (e : Entry) (g : GuestPlace) where
       go zero h = refl
       go (suc j) h = absurd (omega arith)
 
--- an active guest has one job more
-pub joins : (e : Entry) (now : ℕ) (j c d own borrowed : ℕ) → 0 < j
-    → record { jobs = j + 1; current = c; deadline = d; own = own; borrowed = borrowed } ≡ guest_place (join now (guest e.budget e.period j c d own borrowed))
-joins e now zero c d own borrowed h = absurd (omega arith)
-joins e now (suc j) c d own borrowed h = rw (add-one (suc j))
-
 -- ---- the room
 
 module _ (s : State) (h : sound s ≡ true) where
@@ -77,13 +70,7 @@ module _ (s : State) (i : ℕ) where
       ∷ (idle_guest g && ltb deadline_cap (deadline_of (wake s.now g))) gives 6
       ∷ []
 
-  pub gives_unsound : sound s ≡ false → 1 ≡ first (arrive_rows s i)
-  gives_unsound h = gives_1 s (guest_row s i ∷ RowsOf (named s i)) h
-
   module _ (h : sound s ≡ true) where
-    pub gives_nobody : s.table.count ≤ i → 2 ≡ first (arrive_rows s i)
-    gives_nobody l = gives_2 s i (RowsOf (named s i)) h l
-
     module _ (inside : i < s.table.count) where
       pub wake_fits : max s.now (place_at s i).deadline + (entry_at s i).period < 2 ^ 64
       unfolding model

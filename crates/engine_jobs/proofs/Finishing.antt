@@ -1,8 +1,8 @@
--- A job is done: each answer by its row, the guest that finishes, and the leftover that a guest leaves as it goes idle.
+-- A job is done: each answer by its row, and the leftover that a guest leaves as it goes idle.
 use mathlib.Core.Path.{◌≡◌, refl, sym, ap, ◌∙◌}
 use mathlib.Core.Bool.{true, false, ◌&&◌}
 use mathlib.Core.List.{List, [], ◌∷◌, map}
-use Prim.Native.Nat.{ℕ, zero, suc, ◌+◌, ◌-◌, ◌≤◌, ◌<◌}
+use Prim.Native.Nat.{ℕ, zero, suc, ◌+◌, ◌<◌}
 use native.Mathlib.Omega.{arith}
 use lib.Dec.{ltb, eqb}
 use lib.ListN.{length, take, set}
@@ -14,7 +14,7 @@ use Rattle.rules.specs.declared.Entry.{Entry}
 use Rattle.rules.specs.declared.Guest.{Guest as GuestPlace}
 use Rattle.rules.specs.declared.Spare.{Spare as SparePlace}
 use Rattle.rules.specs.declared.State.{State}
-use Rattle.rules.specs.Calls.{named, guest_row, done_rows}
+use Rattle.rules.specs.Calls.{named, done_rows}
 use Rattle.rules.specs.Limits.{spare_places}
 use Rattle.rules.specs.Model.{Guest, guest, Spare, spare, idle_guest, no_guest, guest_at, bit_of}
 use Rattle.rules.specs.Places.{spare_of, model, guest_place, packed}
@@ -26,23 +26,7 @@ use Rattle.promises.proofs.Keeping.{entry-finish, length_insert}
 use Rattle.engine_jobs.proofs.Arriving.{idle_known, active_known}
 use Rattle.engine_time.specs.Inner.{listed}
 use Rattle.engine_time.proofs.Placing.{entry_at, place_at, Here, spares_count, guest_inside, guest_here, step_packed, guest_stored}
-use Rattle.engine_time.proofs.Rows.{gives_1, gives_2, past_2}
-
--- ---- the guest that finishes
-
-module _ (e : Entry) (c d own borrowed : ℕ) where
-  abbrev Of : ℕ → Guest
-  Of j = guest e.budget e.period j c d own borrowed
-
-  pub goes_idle : (j : ℕ) → 0 < j → j - 1 ≡ 0 → record { jobs = j - 1; current = 0; deadline = d; own = own; borrowed = borrowed } ≡ guest_place (finish (Of j))
-  goes_idle zero h k = absurd (omega arith)
-  goes_idle (suc zero) h k = refl
-  goes_idle (suc (suc j)) h k = absurd (omega arith)
-
-  pub stays_active : (j : ℕ) → 0 < j → (j - 1 ≡ 0 → ⊥) → record { jobs = j - 1; current = c; deadline = d; own = own; borrowed = borrowed } ≡ guest_place (finish (Of j))
-  stays_active zero h k = absurd (omega arith)
-  stays_active (suc zero) h k = absurd (k refl)
-  stays_active (suc (suc j)) h k = let one : suc (suc j) - 1 ≡ suc j = omega arith in rw one
+use Rattle.engine_time.proofs.Rows.{past_2}
 
 -- ---- the leftover
 
@@ -69,13 +53,7 @@ active-bit Q T (suc j) c d own borrowed h = refl
 -- ---- the rows
 
 module _ (s : State) (i : ℕ) where
-  pub gives_unsound : sound s ≡ false → 1 ≡ first (done_rows s i)
-  gives_unsound h = gives_1 s (guest_row s i ∷ idle_guest (named s i) gives 3 ∷ []) h
-
   module _ (h : sound s ≡ true) where
-    pub gives_nobody : s.table.count ≤ i → 2 ≡ first (done_rows s i)
-    gives_nobody l = gives_2 s i (idle_guest (named s i) gives 3 ∷ []) h l
-
     module _ (inside : i < s.table.count) where
       past_named : {n : ℕ} → n ≡ first (idle_guest (Here s i) gives 3 ∷ []) → n ≡ first (done_rows s i)
       past_named e = past_2 s i (idle_guest (named s i) gives 3 ∷ []) h inside (rw (guest_here s h i inside) e)

@@ -1,36 +1,28 @@
 -- What the places of a state hold, one by one, and the soundness test put together.
 use mathlib.Core.Path.{◌≡◌, refl, sym, ap, ap₂, ◌∙◌}
-use mathlib.Core.Bool.{Bool, true, false, not, ◌&&◌, ◌||◌, and_assoc, and-true}
+use mathlib.Core.Bool.{Bool, true, false, ◌&&◌, and_assoc, and-true}
 use mathlib.Core.List.{List, [], ◌∷◌, map}
 use Prim.Native.Nat.{ℕ, zero, suc, ◌+◌, ◌-◌, ◌≤◌, ◌<◌}
 use native.Mathlib.Numerals.{add-one}
 use native.Mathlib.Omega.{arith}
-use lib.Dec.{leb, ltb, eqb, eqb-suc-zero}
+use lib.Dec.{leb, ltb, eqb}
 use lib.ListN.{length, get_or, take}
 use lib.Seq.{get_or-take, length-take-le}
 use Rattle.rules.specs.declared.Entry.{Entry}
 use Rattle.rules.specs.declared.Guest.{Guest as GuestPlace}
 use Rattle.rules.specs.declared.Spare.{Spare as SparePlace}
-use Rattle.rules.specs.Limits.{most_jobs, last_tick, deadline_bound}
+use Rattle.rules.specs.Limits.{last_tick}
 use Rattle.rules.specs.Table.{no_entry}
 use Rattle.rules.specs.Model.{Guest, no_guest, guest_at}
 use Rattle.rules.specs.Places.{guest_of, spare_of, no_guest_place}
 use Rattle.rules.specs.Sound.{rising}
 use Rattle.rules.specs.Steps.{before}
 use Rattle.promises.proofs.Packing.{zip_at, zip_length}
-use Rattle.engine_sound.specs.Inner.{guests_of, guest_holds, tally_small, place_tallies, spare_fits, spare_place_holds}
+use Rattle.engine_sound.specs.Inner.{guests_of, tally_small, place_tallies, spare_fits, spare_place_holds}
 use Rattle.laws.specs.Lists.{every, total}
 use Rattle.laws.proofs.Cases.{and_both, and_intro, by_test, never}
 use Rattle.laws.proofs.Elements.{every_at}
 use borrow.Author.Tests.{leb-true, ltb-true, eqb-true, le-leb}
-
--- a guest's test as the code asks it: active is that some job waits
-pub guest_asked : (e : Entry) (g : GuestPlace) (now : ℕ) → leb g.jobs most_jobs && leb g.current e.budget && (not (eqb g.jobs 0) || eqb g.current 0) && leb g.deadline (deadline_bound now) ≡ guest_holds now (guest_of e g)
-guest_asked e g now = go g.jobs g.current g.deadline g.own g.borrowed
-  where
-    go : (j c d own borrowed : ℕ) → leb j most_jobs && leb c e.budget && (not (eqb j 0) || eqb c 0) && leb d (deadline_bound now) ≡ guest_holds now (guest_of e (record { jobs = j; current = c; deadline = d; own = own; borrowed = borrowed }))
-    go zero c d own borrowed = refl
-    go (suc j) c d own borrowed = rw (eqb-suc-zero j)
 
 module _ (entries : List Entry) (guests : List GuestPlace) (count : ℕ) (he : count ≤ length entries) (hg : count ≤ length guests) where
   pub guest_at_lem : (i : ℕ) → i < count → guest_of (get_or entries i no_entry) (get_or guests i no_guest_place) ≡ get_or (guests_of entries guests count) i no_guest
@@ -69,24 +61,6 @@ too_large gs burned empty now l h =
     (λ e. never (small_total gs (omega (arith, l, eqb-true (total place_tallies gs + burned + empty) now e))) h)
     (λ _. refl)
 
--- nor where a tally of the processor is past the end of time
-pub past_end : (gs : List GuestPlace) (burned empty now : ℕ) → now ≤ last_tick → last_tick < burned + empty → false ≡ eqb (total place_tallies gs + burned + empty) now
-past_end gs burned empty now l h =
-    by_test (λ t. false ≡ t) (eqb (total place_tallies gs + burned + empty) now)
-    (λ e. absurd (omega (arith, l, h, eqb-true (total place_tallies gs + burned + empty) now e)))
-    (λ _. refl)
-
--- a spare's test as the code asks it, of its owner
-pub spare_asked : (e : Entry) (g : GuestPlace) (now : ℕ) (x : SparePlace) → leb 1 x.capacity && leb x.capacity e.budget && leb x.deadline (deadline_bound now) && leb x.deadline g.deadline && (eqb g.jobs 0 || ltb x.deadline g.deadline) ≡ spare_fits now (guest_of e g) (spare_of x)
-spare_asked e g now x = go g.jobs
-  where
-    rest : Bool
-    rest = leb 1 x.capacity && leb x.capacity e.budget && leb x.deadline (deadline_bound now) && leb x.deadline g.deadline
-
-    go : (j : ℕ) → rest && (eqb j 0 || ltb x.deadline g.deadline) ≡ spare_fits now (guest_of e (record { jobs = j; current = g.current; deadline = g.deadline; own = g.own; borrowed = g.borrowed })) (spare_of x)
-    go zero = refl
-    go (suc j) = rw (eqb-suc-zero j)
-
 -- and whoever its owner is: one that is no guest fails the test, whatever was read in its stead
 pub owner_asked : (now : ℕ) (gs : List Guest) (x : SparePlace) (n : ℕ) (b : Bool) (g : Guest) → length gs ≡ n → b ≡ spare_fits now g (spare_of x) → (x.owner < n → g ≡ guest_at x.owner gs) → ltb x.owner n && b ≡ spare_place_holds now gs x
 owner_asked now gs x n b g e f h =
@@ -108,15 +82,8 @@ pub record Risen (xs : List SparePlace) (i : ℕ) (ok : Bool) : Type 0 where
   pub low : 1 ≤ i
   pub so : ok ≡ rising (map spare_of (take i xs))
 
-pub risen_start : (xs : List SparePlace) → Risen xs 1 true
-risen_start [] = record { low = omega arith; so = refl }
-risen_start (x ∷ xs) = record { low = omega arith; so = refl }
-
 pub risen_more : (xs : List SparePlace) (i : ℕ) (ok : Bool) → Risen xs i ok → (z : SparePlace) (b : Bool) → b ≡ before (spare_of (get_or xs (i - 1) z)) (spare_of (get_or xs i z)) → i < length xs → Risen xs (i + 1) (ok && b)
 risen_more xs zero ok r z b e h = absurd (omega (arith, r.low))
 risen_more xs (suc j) ok r z b e h =
     let at : suc j - 1 ≡ j = omega arith in
     record { low = omega arith; so = rw (add-one (suc j), rising_more xs j z h, ← r.so, e, at) }
-
-pub risen_end : {xs : List SparePlace} {i : ℕ} {ok : Bool} → Risen xs i ok → (n : ℕ) → i ≡ n → ok ≡ rising (map spare_of (take n xs))
-risen_end {xs} r n e = r.so ∙ ap (λ (k : ℕ). rising (map spare_of (take k xs))) e

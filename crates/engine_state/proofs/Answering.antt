@@ -1,14 +1,13 @@
--- What the questions answer of a state that is sound, and of one that is not.
+-- What the questions answer of a state that is sound.
 use mathlib.Core.Path.{◌≡◌, refl, sym, ap, ◌∙◌}
-use mathlib.Core.Bool.{true, false, not}
+use mathlib.Core.Bool.{true, not}
 use mathlib.Core.List.{[]}
 use Prim.Native.Nat.{ℕ, ◌≤◌}
 use native.Mathlib.Omega.{arith}
 use lib.Count.{ones}
 use lib.ListN.{length, take}
 use lib.Seq.{length-take-le}
-use Rattle.rules.specs.declared.Answer.TheVariants.{Went, Refused}
-use Rattle.rules.specs.declared.Refusal.TheVariants.{NotSound}
+use Rattle.rules.specs.declared.Answer.TheVariants.{Went}
 use Rattle.rules.specs.declared.State.{State}
 use Rattle.rules.specs.Calls.{told, ask_rows, ActiveTold}
 use Rattle.rules.specs.Limits.{guest_places}
@@ -18,7 +17,7 @@ use Rattle.rules.specs.Refusals.{first}
 use Rattle.rules.specs.Sound.{sound}
 use Rattle.promises.proofs.Facts.{points}
 use Rattle.promises.proofs.GoodTable.{good_table_lem}
-use Rattle.promises.proofs.Refusing.{given_here, given-later}
+use Rattle.promises.proofs.Refusing.{given-later}
 use Rattle.engine_choice.specs.Choice.{in_use}
 use Rattle.engine_choice.proofs.Choosing.{mask_shown, count_active}
 
@@ -27,20 +26,8 @@ module _ (s : State) where
   pub guests_fit : sound s ≡ true → s.table.count ≤ guest_places
   guests_fit h = (good_table_lem s.table (points s h).table).count_high
 
-  asked_nothing : sound s ≡ false → 1 ≡ first (ask_rows s)
-  asked_nothing h = given_here (not (sound s)) 1 [] (ap not h)
-
   asked : sound s ≡ true → 0 ≡ first (ask_rows s)
   asked h = given-later (not (sound s)) 1 [] (ap not h) refl
-
-  pub active-refused : sound s ≡ false → ActiveTold s (record { answer = Refused NotSound; mask = 0; actives = 0 })
-  active-refused h =
-      let n = asked_nothing h in
-      record {
-        answer = n;
-        mask = ap (λ (k : ℕ). told k (λ (m : Model). mask_of m.guests) 0 s) n;
-        actives = ap (λ (k : ℕ). told k (λ (m : Model). active_count m.guests) 0 s) n;
-      }
 
   module _ (h : sound s ≡ true) (he : length s.table.entries ≡ guest_places) (hg : length s.guests ≡ guest_places) {mask : ℕ} (e : mask ≡ mask_of (in_use s.table.count s.guests)) where
     pub mask_told : mask ≡ mask_of (model s).guests

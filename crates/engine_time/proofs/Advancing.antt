@@ -1,21 +1,21 @@
 -- Walk after walk: the rows of an advance, what a walk gives, and what an advance knows between two walks.
 use mathlib.Core.Path.{◌≡◌, refl, sym, ap, ◌∙◌}
-use mathlib.Core.Bool.{true, false}
+use mathlib.Core.Bool.{true}
 use mathlib.Core.List.{List, [], ◌∷◌, map}
 use Prim.Native.Nat.{ℕ, ◌+◌, ◌-◌, ◌≤◌, ◌<◌}
 use native.Mathlib.Nat.{sub_self}
 use native.Mathlib.Omega.{arith}
 use lib.Dec.{ltb}
 use lib.ListN.{length, replicate}
-use borrow.Author.Tests.{lt-ltb, le-ltb}
+use borrow.Author.Tests.{le-ltb}
 use Rattle.laws.specs.Lists.{padded}
 use Rattle.rules.specs.declared.Answer.{Answer}
-use Rattle.rules.specs.declared.Answer.TheVariants.{Went, Refused}
+use Rattle.rules.specs.declared.Answer.TheVariants.{Refused}
 use Rattle.rules.specs.declared.Refusal.{Refusal}
 use Rattle.rules.specs.declared.State.{State}
 use Rattle.rules.specs.declared.Line.{Line as LinePlace}
 use Rattle.rules.specs.declared.Walk.{Walk}
-use Rattle.rules.specs.Calls.{told, advance_rows, Advanced}
+use Rattle.rules.specs.Calls.{advance_rows}
 use Rattle.rules.specs.Limits.{last_tick, line_places}
 use Rattle.rules.specs.Lines.{Line, lines}
 use Rattle.rules.specs.Model.{Model}
@@ -24,13 +24,13 @@ use Rattle.rules.specs.Refusals.{Row, ◌gives◌, first, number_of, refusal_num
 use Rattle.rules.specs.Sound.{sound}
 use Rattle.rules.specs.Steps.{advance}
 use Rattle.rules.specs.Walks.{ticks_in, line_place, no_line, walk_lines, walk_state, walk_left, Walked}
-use Rattle.promises.proofs.Calling.{MayAdvance, may_advance}
+use Rattle.promises.proofs.Calling.{MayAdvance}
 use Rattle.promises.proofs.Facts.{sane_model, packed_back, packed-sound}
 use Rattle.promises.proofs.Packing.{model-packed}
-use Rattle.promises.proofs.Refusing.{given_here, given-later}
+use Rattle.promises.proofs.Refusing.{given-later}
 use Rattle.promises.proofs.Ticking.{advance_now, advance-add, advance_sane}
 use Rattle.promises.proofs.Walks.{ticks_in_le, ticks_in_some, walk_state_lem, walk_left_lem}
-use Rattle.engine_time.proofs.Rows.{gives_1, past_1, told_nothing}
+use Rattle.engine_time.proofs.Rows.{past_1, told_nothing}
 
 -- ---- the rows
 
@@ -39,35 +39,18 @@ module _ (s : State) (k : ℕ) where
   abbrev rows : List Row
   rows = ltb last_tick (s.now + k) gives 7 ∷ []
 
-  pub gives_unsound : sound s ≡ false → 1 ≡ first (advance_rows s k)
-  gives_unsound h = gives_1 s rows h
-
   module _ (h : sound s ≡ true) where
     pub in_time : s.now ≤ last_tick
     unfolding model
     in_time = (sane_model s h).time
 
-    pub gives_late : last_tick - s.now < k → 7 ≡ first (advance_rows s k)
-    gives_late l = past_1 s rows h (given_here (ltb last_tick (s.now + k)) 7 [] (lt-ltb last_tick (s.now + k) (omega arith)))
-
     pub gives_advanced : k ≤ last_tick - s.now → 0 ≡ first (advance_rows s k)
     gives_advanced l = past_1 s rows h (given-later (ltb last_tick (s.now + k)) 7 [] (le-ltb last_tick (s.now + k) (omega (arith, in_time))) refl)
 
   module _ {a : Answer} (e : number_of a ≡ first (advance_rows s k)) where
-    -- the advance may be made
-    pub may : a ≡ Went → (sound s ≡ true) × (s.now + k ≤ last_tick)
-    unfolding model
-    may f = let m = may_advance s k (sym e ∙ ap number_of f) in (m.whole, m.time)
-
-    pub advance_went : a ≡ Went → {t : State} → t ≡ packed (advance k (model s)) → Advanced s k (record { answer = a; state = t })
-    advance_went f g = record { answer = e; state = g ∙ ap (λ (n : ℕ). told n (λ (m : Model). packed (advance k m)) s s) (sym (ap number_of f) ∙ e) }
-
     module _ (r : Refusal) (f : a ≡ Refused r) where
       abbrev number : refusal_number r ≡ first (advance_rows s k)
       number = sym (ap number_of f) ∙ e
-
-      pub advance-refused : Advanced s k (record { answer = a; state = s })
-      advance-refused = record { answer = e; state = told_nothing _ s s (advance_rows s k) r number }
 
       pub walk_refused : {qs : List LinePlace} → qs ≡ replicate line_places no_line → Walked s k (record { answer = a; state = s; left = 0; shown = 0; lines = qs })
       unfolding walk_lines walk_state walk_left
@@ -132,6 +115,3 @@ module _ (s : State) (k : ℕ) (h : sound s ≡ true) (time : s.now + k ≤ last
             few = omega (arith, left_after, g.few);
             so = r.state ∙ walk_state_lem state left allowed ∙ ap (λ (m : Model). packed (advance (ticks_in line_places left m) m)) here ∙ ap packed (sym (advance-add (k - left) n (model s)) ∙ ap (λ (j : ℕ). advance j (model s)) (sym all));
           }
-
-    pub going_end : left ≤ 0 → state ≡ packed (advance k (model s))
-    going_end l = let all : k - left ≡ k = omega arith in g.so ∙ ap (λ (j : ℕ). packed (advance j (model s))) all

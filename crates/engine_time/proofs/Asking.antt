@@ -1,18 +1,16 @@
 -- What Ask answers: the choice after step 1 of a tick, and the first spare.
 use mathlib.Core.Path.{◌≡◌, refl, ap, ◌∙◌}
-use mathlib.Core.Bool.{true, false}
+use mathlib.Core.Bool.{true}
 use mathlib.Core.List.{List, []}
 use Prim.Native.Nat.{ℕ}
 use native.Mathlib.Omega.{arith}
 use lib.Dec.{ltb}
 use lib.ListN.{get_or, length, length-map}
-use Rattle.rules.specs.declared.Answer.TheVariants.{Went, Refused}
+use Rattle.rules.specs.declared.Answer.TheVariants.{Went}
 use Rattle.rules.specs.declared.Guest.{Guest as GuestPlace}
 use Rattle.rules.specs.declared.Portion.{Portion as DeclaredPortion}
-use Rattle.rules.specs.declared.Portion.TheVariants.{Nothing}
-use Rattle.rules.specs.declared.Refusal.TheVariants.{NotSound}
 use Rattle.rules.specs.declared.State.{State}
-use Rattle.rules.specs.Calls.{told, ask_rows, portion_of, AskedFor}
+use Rattle.rules.specs.Calls.{told, portion_of, AskedFor}
 use Rattle.rules.specs.Places.{model, no_spare_place}
 use Rattle.rules.specs.Sound.{sound}
 use Rattle.rules.specs.Steps.{renew, renewed, Pick, earliest, Portion, nothing_to_do, portion_for, next, ask}
@@ -21,13 +19,10 @@ use Rattle.engine_choice.specs.Choice.{in_use}
 use Rattle.engine_choice.specs.Clauses.{first_of}
 use Rattle.engine_time.specs.Inner.{placed}
 use Rattle.engine_time.proofs.Placing.{spares_long}
-use Rattle.engine_time.proofs.Rows.{gives_1, past_1, told_nothing}
+use Rattle.engine_time.proofs.Rows.{past_1}
 use Rattle.engine_time.proofs.Turning.{earliest_in, portion_in}
 
 module _ (s : State) where
-  pub ask-refused : sound s ≡ false → AskedFor s (record { answer = Refused NotSound; next = Nothing })
-  ask-refused h = let e = gives_1 s [] h in record { answer = e; next = told_nothing ask nothing_to_do s (ask_rows s) NotSound e }
-
   module _ (h : sound s ≡ true) where
     pub ask-told : {x : DeclaredPortion} → portion_of x ≡ ask (model s) → AskedFor s (record { answer = Went; next = x })
     ask-told e = let z = past_1 s [] h refl in record { answer = z; next = e ∙ ap (λ (n : ℕ). told n ask nothing_to_do s) z }

@@ -1,4 +1,4 @@
--- Step 1 of a tick, of one guest, and guest by guest: what the loop knows at i, and what a turn adds.
+-- Step 1 of a tick, guest by guest: what the loop knows at i, and what a turn adds.
 use mathlib.Core.Path.{◌≡◌, refl, sym, ap, ◌∙◌}
 use mathlib.Core.Bool.{true}
 use mathlib.Core.List.{List, [], ◌∷◌, map}
@@ -7,12 +7,11 @@ use native.Mathlib.Numerals.{add-one}
 use native.Mathlib.Omega.{arith}
 use lib.ListN.{length, get_or, set}
 use Rattle.laws.specs.Lists.{changed}
-use Rattle.rules.specs.declared.Entry.{Entry}
 use Rattle.rules.specs.declared.Guest.{Guest as GuestPlace}
 use Rattle.rules.specs.declared.State.{State}
 use Rattle.rules.specs.Limits.{guest_places, last_tick, deadline_bound}
 use Rattle.rules.specs.Model.{Guest, guest, deadline_of, guest_at}
-use Rattle.rules.specs.Places.{guest_of, guest_place, no_guest_place, model}
+use Rattle.rules.specs.Places.{guest_place, no_guest_place, model}
 use Rattle.rules.specs.Sound.{sound}
 use Rattle.rules.specs.Steps.{renew, renewed}
 use Rattle.rules.specs.Table.{no_entry}
@@ -20,33 +19,6 @@ use Rattle.promises.proofs.Facts.{GuestGood, sane_model, guests_count}
 use Rattle.engine_sound.specs.Inner.{guests_of}
 use Rattle.engine_time.specs.Inner.{placed}
 use Rattle.engine_time.proofs.Placing.{placed_changed, guests_back, table_good, Here, guest_inside, guest_here, guest_good}
-
--- ---- one guest
-
-module _ (e : Entry) (g : GuestPlace) where
-  abbrev renewal : ℕ → ℕ → GuestPlace
-  renewal j c = guest_place (renew (guest_of e (record { jobs = j; current = c; deadline = g.deadline; own = g.own; borrowed = g.borrowed })))
-
-  pub renew_idle : g.jobs ≡ 0 → g ≡ guest_place (renew (guest_of e g))
-  renew_idle h = (λ i. record { jobs = h i; current = g.current; deadline = g.deadline; own = g.own; borrowed = g.borrowed }) ∙ ap (λ (j : ℕ). renewal j g.current) (sym h)
-
-  pub renew-left : (g.current ≡ 0 → ⊥) → g ≡ guest_place (renew (guest_of e g))
-  renew-left h = go g.jobs g.current h
-    where
-      go : (j c : ℕ) → (c ≡ 0 → ⊥) → record { jobs = j; current = c; deadline = g.deadline; own = g.own; borrowed = g.borrowed } ≡ renewal j c
-      go zero c n = refl
-      go (suc j) zero n = absurd (n refl)
-      go (suc j) (suc c) n = refl
-
-  pub renew_spent : (g.jobs ≡ 0 → ⊥) → g.current ≡ 0
-      → record { jobs = g.jobs; current = e.budget; deadline = g.deadline + e.period; own = g.own; borrowed = g.borrowed } ≡ guest_place (renew (guest_of e g))
-  renew_spent n h = go g.jobs n ∙ ap (λ (c : ℕ). renewal g.jobs c) (sym h)
-    where
-      go : (j : ℕ) → (j ≡ 0 → ⊥) → record { jobs = j; current = e.budget; deadline = g.deadline + e.period; own = g.own; borrowed = g.borrowed } ≡ renewal j 0
-      go zero n = absurd (n refl)
-      go (suc j) n = refl
-
--- ---- guest by guest
 
 -- the first i guests are renewed
 abbrev partly : ℕ → List Guest → List Guest

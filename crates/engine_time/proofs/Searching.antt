@@ -8,7 +8,7 @@ use native.Mathlib.Numerals.{add-one}
 use native.Mathlib.Omega.{arith}
 use lib.Count.{count_trailing_zeros, under}
 use lib.Dec.{leb, eqb-suc-zero}
-use lib.ListN.{length, get_or, take, drop, drop_of_length-le, get_or-map}
+use lib.ListN.{length, get_or, take, drop, get_or-map}
 use lib.Seq.{drop-cons, drop-nil, get_or-take}
 use borrow.Author.Tests.{le-leb, lt-leb}
 use Rattle.laws.proofs.Cases.{by_leb, by_ltb}
@@ -126,11 +126,6 @@ module _ (gs : List GuestPlace) (n : ℕ) (inside : n ≤ length gs) where
           so = rw (add-one i, e, here_cond gs (beats b g) i best)
               (ap (λ (p : Pick). sooner p others) (better_by best i b g b.jobs g.jobs) ∙ sooner_assoc (ready best (shown b)) (ready i (shown g)) others ∙ ap (sooner (ready best (shown b))) (sym (from_here i h)) ∙ s.so);
         }
-
-    pub searched_end : n ≤ i → ready best (shown (here gs best)) ≡ earliest from (drop from (in_use n gs))
-    searched_end h =
-        let passed : length (in_use n gs) ≤ i = omega (arith, length_in_use n gs inside) in
-        sym (sooner_nobody (ready best (shown (here gs best)))) ∙ rw (drop_of_length-le (in_use n gs) passed) at s.so
 
 -- either of two places is a place
 pub either_inside : (t : Bool) (i k : ℕ) {n next : ℕ} → next ≡ cond t i k → i < n → k < n → next < n

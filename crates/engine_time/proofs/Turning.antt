@@ -50,10 +50,6 @@ use Rattle.engine_choice.proofs.Charging.{lost_by, made, Fits, charge_fits}
 use Rattle.engine_time.proofs.Mirroring.{mirrors, starts_first, starts_inside}
 use Rattle.engine_time.proofs.Placing.{placed_at, placed_changed, table_good, packed_fields, spares_long, guest_here, guest_good}
 
-pub begun_some : (k : ℕ) (m : Model) → (k ≡ 0 → ⊥) → begun_from k m ≡ renewed m
-begun_some zero m h = absurd (h refl)
-begun_some (suc k) m h = refl
-
 -- ---- a model in the walk's variables
 
 pub record Shows (s : State) (x : Model) (ps : List GuestPlace) (ss : List SparePlace) (h : Clock) : Type 0 where
