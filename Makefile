@@ -27,6 +27,7 @@ valgrind:
 bench:
 	@tools/x86 only 'make bench'
 	@$(MAKE) --no-print-directory lib
+	@tools/build bench_measure schedule
 	@bench/run
 	@bench/program
 
