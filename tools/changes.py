@@ -10,7 +10,7 @@ import common
 
 WORDS = {"leb": ["ltb"], "ltb": ["leb"], "eqb": ["leb"], "<": ["≤"], "≤": ["<"], "&&": ["||"], "||": ["&&"], "max": ["min"], "min": ["max"], "+": ["-"], "-": ["+"], "true": ["false"], "false": ["true"]}
 # Where a word comes from that a change brings in.
-HOMES = {"lib.Dec": ["leb", "ltb"], "Prim.Native.Nat": ["_<_", "_≤_", "_+_", "_-_", "max", "min", "suc"], "mathlib.Core.Bool": ["_&&_", "_||_", "true", "false"]}
+HOMES = {"Rattle.std.specs.Prelude": ["leb", "ltb", "◌<◌", "◌≤◌", "◌+◌", "◌-◌", "max", "min", "suc", "◌&&◌", "◌||◌", "true", "false"]}
 TOKEN = re.compile(r"[(){}]|[;,]|[^\s(){};,]+")
 # What ends an operand, from the loosest on.
 BREAKS = {"→", "↔", ",", ";", "=", "let", "in", "λ", ".", ":"}
@@ -232,7 +232,7 @@ def arguments(text, group, known):
     for at, item in enumerate(group):
         types = known.get(item.text, [])
         behind = group[at + 1 : at + 1 + len(types)]
-        whole = len(behind) == len(types) and all(one.inside is not None or re.fullmatch(r"\w+", one.text) for one in behind)
+        whole = len(behind) == len(types) and all(one.inside is not None or re.fullmatch(r"[\w.]+", one.text) for one in behind)
         for place in range(len(types) - 1 if whole else 0):
             if types[place] == types[place + 1]:
                 yield from exchanged(text, behind[place][:2], behind[place + 1][:2], f" in {item.text}")
@@ -280,7 +280,7 @@ def with_imports(text, new):
     """A file's text with what the words of a change need besides."""
     here = {name.strip() for names in re.findall(r"^use .*\{(.*)\}$", text, re.MULTILINE) for name in names.split(",")}
     words = set(TOKEN.findall(new))
-    missing = [(home, name) for home, names in HOMES.items() for name in names if name.strip("_") in words and name not in here]
+    missing = [(home, name) for home, names in HOMES.items() for name in names if name.strip("◌") in words and name not in here]
     first = text.index("\nuse ") + 1 if "\nuse " in text else text.index("\n") + 1
     return text[:first] + "".join(f"use {home}.{{{name}}}\n" for home, name in missing) + text[first:]
 

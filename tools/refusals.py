@@ -26,6 +26,7 @@ CONSEQUENCE = "was not admitted"
 FACTS = re.compile(
     r"does not follow from what it read"
     r"|(types|indices|terms) (differ only|first differ) where"
+    r"|the two types are `Path "
     r"|expected type .* but this has type"
     r"|is checked against .* which is not a"
     r"|`search`: no proof of"
@@ -53,8 +54,8 @@ UNPROVED = "it is not proved that what the function ensures holds when it return
 TOLD = re.compile(r"^(?:rt: )?must-fail (?P<crate>[a-z0-9_]+)/(?P<label>[\w.-]+)\.edit: (?P<rest>.*)$", re.MULTILINE)
 AS_IT_MUST = re.compile(r"refused, as it must be(?: \((?P<only>only [^)]*)\)?)?(?:: (?P<text>.*))?")
 NAMES_GONE = "only because a proof file names what the edit took away"
-# What it says of a goal at whose values it fails.
-ALLOWED = "the facts known there allow values at which this goal"
+# What it says of a goal of a function that it could not prove.
+NOT_PROVED = "it is not proved that "
 
 
 class Told(NamedTuple):
@@ -166,7 +167,7 @@ def told_in(log):
 
 
 def refusal_told(told, theorems):
-    """How an edit was refused, by its first error: rt tells no more of it."""
+    """How an edit was refused, by its first error, of which rt tells the beginning: a shape where that is no fact."""
     if told.bad or not told.refused:
         return Refusal(NONE, "", told.text)
     place, _, text = re.sub(r"^(note: )?(\./)?", "", told.text).partition(": ")
@@ -174,8 +175,10 @@ def refusal_told(told, theorems):
     shown = place + (f" {name[0]}" if name else "")
     if told.only:
         return Refusal(SHAPE, shown, told.only)
-    if ALLOWED in text:
-        return Refusal(COUNTEREXAMPLE, shown, text)
+    if NOT_PROVED in text:
+        return Refusal(GOAL, shown, text)
+    if CONSEQUENCE in text or SHAPES.search(text) or not FACTS.search(text):
+        return Refusal(SHAPE, shown, text)
     theorem = theorems.around(place, told.crate)
     words = theorem.type.split() if theorem else []
     if len(words) == 2 and words[0] == "Hold" and words[1] in theorems.rows:

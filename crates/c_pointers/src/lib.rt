@@ -7,7 +7,8 @@ ghost use Rattle.std.specs.Fn.{FnOnceReturnsAt};
 ghost use Rattle.c_pointers.specs.Forms.{StoresAt};
 
 use c_answers::{Changed, WalkShown, Walked};
-use rules::State;
+use c_images::Reading;
+use rules::{State, Table};
 
 // The state is changed in its place, and the number is given.
 pub fn changing<N, F: FnOnce(State, N) -> Changed>(change: F, state: &mut State, number: N) -> u32
@@ -55,14 +56,14 @@ pub fn starting<T: Copy, F: FnOnce(T) -> Changed>(start: F, state: &mut State, f
     started.refusal
 }
 
-// A value is made of bytes, and stored whatever was there.
-pub fn loading<T: Drop, F: FnOnce(&[u8]) -> (u32, T)>(load: F, place: &mut T, bytes: &[u8]) -> u32
+// A table is made of an image, and stored whatever was there.
+pub fn loading<F: FnOnce(&[u8]) -> Reading>(load: F, table: &mut Table, image: &[u8]) -> u32
     requires { F.IsAlwaysCallable load }
-    ensures { FnOnceReturnsAt F.FnOnce load bytes.now (result, place.new) }
+    ensures { FnOnceReturnsAt F.FnOnce load image.now (record { refusal = result; table = table.new }) }
 {
-    let (number, value) = load(bytes);
-    *place = value;
-    number
+    let reading = load(image);
+    *table = reading.table;
+    reading.refusal
 }
 
 // What stands behind a pointer is written to bytes.
