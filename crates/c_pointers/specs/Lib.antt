@@ -1,2 +1,3 @@
 -- What a function says of another one that it hands its pointers' values to.
 pub mod Forms
+pub mod Held

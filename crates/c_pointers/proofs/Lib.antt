@@ -1,0 +1,2 @@
+-- The rows of the forms.
+pub mod Held
