@@ -1,4 +1,4 @@
--- `program_pass::input::line_end` meets its contract: no byte up to i is a line feed.
+-- `program_turn::input::line_end` meets its contract: no byte up to i is a line feed.
 use Rattle.program_turns.proofs.Inputs.{passed_more, passed_feed, passed_end}
 use borrow.Author.Rules.{rules}
 use Rattle.program_turn.proofs.input.line_end.Goals as goal

@@ -1,4 +1,4 @@
--- `program_pass::input::line_end` meets its contract: no byte up to i is a line feed.
+-- `program_turn::input::line_end` meets its contract: no byte up to i is a line feed.
 use Prim.Native.Nat.{◌-◌}
 use lib.ListN.{length}
 use Rattle.program_turns.proofs.Inputs.{Passed}

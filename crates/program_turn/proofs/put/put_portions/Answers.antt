@@ -1,4 +1,4 @@
--- `program_pass::put::put_portions` meets its contract: at i the lines of the first i lines are put.
+-- `program_turn::put::put_portions` meets its contract: at i the lines of the first i lines are put.
 use native.Mathlib.Omega.{arith}
 use Rattle.rules.specs.declared.Source.TheVariants.{Own}
 use Rattle.rules.specs.declared.Use.TheVariants.{Run}

@@ -1,4 +1,4 @@
--- `program_pass::put::put_portions` meets its contract: at i the lines of the first i lines are put.
+-- `program_turn::put::put_portions` meets its contract: at i the lines of the first i lines are put.
 use Prim.Native.Nat.{◌≤◌, ◌-◌}
 use Rattle.program_turn.proofs.Doing.{Shown}
 use Rattle.program_turn.proofs.put.put_portions.Given as goal
