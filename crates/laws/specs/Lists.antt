@@ -1,11 +1,11 @@
 -- Lists: every element, a sum, one element changed, and a list that is filled up to its places.
-use Rattle.std.specs.Prelude.{List, [], ◌∷◌, ◌++◌, Bool, true, ◌&&◌, ℕ, zero, suc, ◌+◌, ◌-◌, eqb, length, drop, replicate}
+use Rattle.std.specs.Prelude.{List, [], ◌∷◌, ◌++◌, Bool, ◌&&◌, ℕ, zero, suc, ◌+◌, ◌-◌, eqb, length, drop, replicate}
+use Rattle.std.specs.List.{list_all}
 
 module _ {A : Type 0} where
   -- p holds of every element
   abbrev pub every : (A → Bool) → List A → Bool
-  every p [] = true
-  every p (x ∷ xs) = p x && every p xs
+  every = list_all
 
   -- the sum of f over the elements
   abbrev pub total : (A → ℕ) → List A → ℕ

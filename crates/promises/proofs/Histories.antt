@@ -5,23 +5,26 @@ use Prim.Native.Nat.{ℕ, zero, suc, ◌+◌, ◌-◌, ◌≤◌}
 use native.Mathlib.Omega.{arith}
 use lib.ListN.{length}
 use lib.Seq.{take_all, take-length}
+use Rattle.std.specs.Prelude.{Result, Ok, Err}
+use Rattle.std.specs.Result.{result_unwrap_or}
 use Rattle.rules.specs.declared.Table.{Table}
 use Rattle.rules.specs.declared.State.{State}
 use Rattle.rules.specs.declared.Walk.{Walk}
 use Rattle.rules.specs.Limits.{line_places}
-use Rattle.rules.specs.Refusals.{first, number_of}
+use Rattle.rules.specs.declared.Refusal.{Refusal}
+use Rattle.rules.specs.Refusals.{first, refusal_number}
 use Rattle.rules.specs.Table.{table_rows}
 use Rattle.rules.specs.Model.{budget_of, deadline_of, own_of, guest_at}
 use Rattle.rules.specs.Places.{model, fresh_state}
-use Rattle.rules.specs.Calls.{kept, advance_rows, named, Call, arrives, finishes, advances, asks, asks_active, asks_margin, number_given, state_after, run}
-use Rattle.rules.specs.Walks.{ticks_in, Walked}
+use Rattle.rules.specs.Calls.{advance_rows, named, Call, arrives, finishes, advances, asks, asks_active, asks_margin, number_given, state_after, run}
+use Rattle.rules.specs.Walks.{ticks_in, no_walk, Walked}
 use Rattle.promises.specs.Runs.{events, passed, own_ticks}
 use Rattle.promises.specs.Promises.{Wakes, StaysActive}
 use Rattle.promises.specs.Histories.{walk_call, History, begun, arrived, finished, advanced, walked, asked, asked_active, asked_margin, HistoryIsRun, NeverOne, FirstHalfReached, SecondHalfReached}
 use Rattle.promises.proofs.Calling.{may_advance, advanced as advanced-state}
 use Rattle.promises.proofs.Walks.{ticks_in_le, walk_left_lem, walk_state_lem}
 use Rattle.promises.proofs.Starting.{never_unsound}
-use Rattle.promises.proofs.Outcomes.{refusal_gives_back}
+use Rattle.promises.proofs.Outcomes.{refusal_counts}
 use Rattle.promises.proofs.Promised.{run_is_steps, counts_are_tallies, first_half, second_half_later}
 
 -- ---- a walk is the advance that it made
@@ -31,15 +34,15 @@ refused-advance : (s : State) (k n : ℕ) → first (advance_rows s k) ≡ suc n
 unfolding state_after
 refused-advance s k n e = rw e
 
--- with the number of its answer in hand
-walk_by : (s : State) (k : ℕ) (r : Walk) → Walked s k r → (n : ℕ) → number_of r.answer ≡ n → r.state ≡ state_after (advances (kept n (k - r.left) k)) s
-walk_by s k r p zero e =
-    let a = may_advance s k (sym p.answer ∙ e) in
+-- of an accepted walk and of a refused one
+walk_by : (s : State) (k : ℕ) (r : Result Walk Refusal) → Walked s k r → (result_unwrap_or r (no_walk s)).state ≡ state_after (walk_call k r) s
+walk_by s k (Ok w) p =
+    let a = may_advance s k (sym p.answer) in
     let n = ticks_in line_places k (model s) in
     let l = ticks_in_le line_places k (model s) in
-    let made : k - r.left ≡ n = omega (arith, p.left, walk_left_lem s k a) in
+    let made : k - w.left ≡ n = omega (arith, p.left, walk_left_lem s k a) in
     rw made (p.state ∙ walk_state_lem s k a ∙ sym (advanced-state s n (record { whole = a.whole; time = omega (arith, a.time) })))
-walk_by s k r p (suc n) e = (refusal_gives_back.walk s k r p (omega arith)).0 ∙ sym (refused-advance s k n (sym p.answer ∙ e))
+walk_by s k (Err r) p = sym (refused-advance s k (refusal_number r - 1) (sym p.answer ∙ omega (arith, refusal_counts r)))
 
 -- ---- a history is a run
 
@@ -62,11 +65,11 @@ call_more {t} {cs} c a e = record { good = a.good; state = e ∙ ap (state_after
 -- each call is one more
 is_run : {t : Table} {cs : List Call} {s : State} → History t cs s → IsRun t cs s
 unfolding state_after run
-is_run {t} (begun r f e) = let good : first (table_rows t) ≡ 0 = sym f.answer ∙ e in record { good = good; state = rw good at f.state }
+is_run {t} (begun s f) = let good : first (table_rows t) ≡ 0 = sym f.answer in record { good = good; state = rw good at f.state }
 is_run (arrived h i r p) = call_more (arrives i) (is_run h) p.state
 is_run (finished h i r p) = call_more (finishes i) (is_run h) p.state
 is_run (advanced h k r p) = call_more (advances k) (is_run h) p.state
-is_run (walked {s = s} h k r p) = call_more (walk_call k r) (is_run h) (walk_by s k r p (number_of r.answer) refl)
+is_run (walked {s = s} h k r p) = call_more (walk_call k r) (is_run h) (walk_by s k r p)
 is_run (asked h r p) = call_more asks (is_run h) refl
 is_run (asked_active h r p) = call_more asks_active (is_run h) refl
 is_run (asked_margin h i r p) = call_more (asks_margin i) (is_run h) refl

@@ -10,17 +10,17 @@ use lib.ListN.{length, take, drop, length-append, take-append-drop, length-drop}
 use lib.Pow.{are_bytes}
 use lib.Seq.{length-take-le, take_at, take_all, drop_at, drop-append-add}
 use borrow.Author.Tests.{ltb-true, ltb-false, eqb-true, eq-eqb, not-false}
+use Rattle.std.specs.Prelude.{⊤, Result, Ok}
 use Rattle.laws.specs.Lists.{padded}
 use Rattle.laws.proofs.Cases.{and_both}
 use Rattle.laws.proofs.Elements.{All, none, each}
 use Rattle.laws.proofs.Parts.{parts_join, bytes_split}
 use Rattle.rules.specs.declared.Entry.{Entry}
 use Rattle.rules.specs.declared.Table.{Table}
-use Rattle.rules.specs.declared.Answer.{Answer}
-use Rattle.rules.specs.declared.Loaded.{Loaded}
+use Rattle.rules.specs.declared.Refusal.{Refusal}
 use Rattle.rules.specs.Limits.{guest_places, shortest_image, longest_image}
 use Rattle.rules.specs.Refusals.{◌gives◌, first, number_of}
-use Rattle.rules.specs.Table.{entries_of, no_entry, table_rows}
+use Rattle.rules.specs.Table.{entries_of, no_entry, no_table, table_rows}
 use Rattle.rules.specs.Image.{
   entry_bytes,
   trailer_bytes,
@@ -49,6 +49,7 @@ use Rattle.rules.specs.Calls.{TableRead, TableWritten}
 use Rattle.promises.specs.Promises.{WrittenIsRead, BehindStays, ReadIsWritten, RoundTrip}
 use Rattle.promises.proofs.Refusing.{Clear, clear, clear_front, none_given}
 use Rattle.promises.proofs.GoodTable.{between, not-outside, Fits, Good, good}
+use Rattle.promises.proofs.Outcomes.{answer_same}
 
 -- ---- a number in its bytes
 
@@ -235,19 +236,19 @@ behind_stays t buffer h =
 pub round_trip : RoundTrip
 round_trip = record { written_read = there; read_written = back }
   where
-    there : (t : Table) (buffer after : List ℕ) (a : Answer) (l : Loaded) → TableWritten t buffer a after → number_of a ≡ 0 → TableRead (take (image_length t) after) l → (number_of l.answer ≡ 0) × (l.table ≡ t)
-    there t buffer after a l w h r =
-        let none = sym w.answer ∙ h in
+    there : (t : Table) (buffer after : List ℕ) (l : Result Table Refusal) → TableWritten t buffer (Ok tt) after → TableRead (take (image_length t) after) l → l ≡ Ok t
+    there t buffer after l w r =
+        let none = sym w.answer in
         let content : after ≡ overwritten t buffer = w.content ∙ rw none in
         let read = written_is_read t buffer none in
         let number : first (read_rows (take (image_length t) after)) ≡ 0 = rw content read.0 in
         let table : table_in (take (image_length t) after) ≡ t = rw content read.1 in
-        (r.answer ∙ number, r.table ∙ rw number table)
+        answer_same no_table l (Ok t) (r.answer ∙ number) (r.table ∙ rw number table)
 
-    back : (image buffer after : List ℕ) (l : Loaded) (a : Answer) → are_bytes image ≡ true → TableRead image l → number_of l.answer ≡ 0 → offset_in image ≡ 0 → TableWritten l.table buffer a after → number_of a ≡ 0 → take (length image) after ≡ image
-    back image buffer after l a bytes r h offset w k =
-        let number = sym r.answer ∙ h in
-        let table : l.table ≡ table_in image = r.table ∙ rw number in
-        let same : image_of l.table ≡ image = ap image_of table ∙ read_is_written image bytes number offset in
-        let content : after ≡ overwritten l.table buffer = w.content ∙ rw (sym w.answer ∙ k) in
+    back : (image buffer after : List ℕ) (t : Table) → are_bytes image ≡ true → TableRead image (Ok t) → offset_in image ≡ 0 → TableWritten t buffer (Ok tt) after → take (length image) after ≡ image
+    back image buffer after t bytes r offset w =
+        let number = sym r.answer in
+        let table : t ≡ table_in image = r.table ∙ rw number in
+        let same : image_of t ≡ image = ap image_of table ∙ read_is_written image bytes number offset in
+        let content : after ≡ overwritten t buffer = w.content ∙ rw (sym w.answer) in
         rw (content, same) (take_at image _ (length image) refl)

@@ -50,15 +50,15 @@ told_went n f z s h = ap (λ k. told k f z s) h
 pub activity_meant : ActivityMeant
 activity_meant =
     record {
-      mask = λ s r p h i.
-          let told-mask = p.mask ∙ told_went _ _ 0 s (sym p.answer ∙ h) in
+      mask = λ s r p i.
+          let told-mask = p.mask ∙ told_went _ _ 0 s (sym p.answer) in
           let bits : bit i r.mask ≡ bit_of (named s i) = ap (bit i) told-mask ∙ mask_bit i (model s).guests in
           (λ one. (bit-active (named s i)).0 (sym bits ∙ one), λ is. bits ∙ (bit-active (named s i)).1 is);
-      count = λ s r p h. p.actives ∙ told_went _ _ 0 s (sym p.answer ∙ h) ∙ count_actives (model s).guests;
+      count = λ s r p. p.actives ∙ told_went _ _ 0 s (sym p.answer) ∙ count_actives (model s).guests;
     }
 
 pub margin_meant : MarginMeant
 unfolding margin model
-margin_meant s i r p h =
-    let ticks : r.ticks ≡ pos (deadline_of (named s i)) -ℤ pos s.now = p.ticks ∙ told_went _ (margin i) (pos 0) s (sym p.answer ∙ h) in
-    ap (λ t. t +ℤ pos s.now) ticks ∙ -ℤ-+ℤ_cancel (pos (deadline_of (named s i))) (pos s.now)
+margin_meant s i ticks p =
+    let told-ticks : ticks ≡ pos (deadline_of (named s i)) -ℤ pos s.now = p.ticks ∙ told_went _ (margin i) (pos 0) s (sym p.answer) in
+    ap (λ t. t +ℤ pos s.now) told-ticks ∙ -ℤ-+ℤ_cancel (pos (deadline_of (named s i))) (pos s.now)

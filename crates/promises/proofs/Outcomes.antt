@@ -1,17 +1,16 @@
 -- Answers: the number and the values determine an answer, each call's predicate determines its outcome, and what a refusal gives back.
 use mathlib.Core.Path.{◌≡◌, refl, ap, sym, ◌∙◌}
 use mathlib.Core.List.{List, [], ◌∷◌, map}
-use Prim.Native.Nat.{ℕ, zero, suc, ◌<◌}
+use Prim.Native.Nat.{ℕ, zero, suc, ◌-◌, ◌<◌}
 use native.Mathlib.Omega.{arith}
 use lib.IntN.{pos}
 use lib.ListN.{length, get_or, replicate}
+use Rattle.std.specs.Prelude.{Result, Ok, Err}
+use Rattle.std.specs.Result.{result_unwrap_or}
 use Rattle.laws.specs.Lists.{padded}
 use Rattle.laws.proofs.Cases.{by_leb}
 use Rattle.rules.specs.declared.Refusal.{Refusal}
 use Rattle.rules.specs.declared.Refusal.TheVariants.{NotSound, NoSuchGuest, GuestIdle, JobsFull, NoRoom, DeadlineTooFar, EndOfTime, ImageLength, UnknownEdition, GuestCount, WrongOffset, FrameRange, BadGuest, ShareTooLarge, BufferShort, Malformed}
-use Rattle.rules.specs.declared.Answer.{Answer}
-use Rattle.rules.specs.declared.Answer.TheVariants.{Went, Refused}
-use Rattle.rules.specs.declared.Outcome.{Outcome}
 use Rattle.rules.specs.declared.State.{State}
 use Rattle.rules.specs.declared.Source.{Source as DeclaredSource}
 use Rattle.rules.specs.declared.Source.TheVariants.{Own, SpareOf}
@@ -26,9 +25,9 @@ use Rattle.rules.specs.Table.{no_table}
 use Rattle.rules.specs.Model.{Model}
 use Rattle.rules.specs.Places.{no_state}
 use Rattle.rules.specs.Steps.{Source, own_budget, spare_of, Use, runs, burns, nothing, limited, endless, Portion, portion, nothing_to_do}
-use Rattle.rules.specs.Calls.{told, kept, advance_rows, portion_of, Moved}
+use Rattle.rules.specs.Calls.{told, kept, advance_rows, portion_of, nobody, Moved}
 use Rattle.rules.specs.Lines.{Line}
-use Rattle.rules.specs.Walks.{declared_use, use_in, line_place, no_line, walk_lines, walk_state, walk_left, Walked}
+use Rattle.rules.specs.Walks.{declared_use, use_in, line_place, no_line, walk_lines, walk_state, walk_left, no_walk, Walked}
 use Rattle.promises.specs.Promises.{AnswersDetermined, OneOutcome, RefusalGivesBack}
 
 -- ---- the answers
@@ -54,31 +53,43 @@ refusals =
     ∷ Malformed
     ∷ []
 
-abbrev answer_of : ℕ → Answer
-answer_of zero = Went
-answer_of (suc n) = Refused (get_or refusals n NotSound)
+abbrev refusal_of : ℕ → Refusal
+refusal_of n = get_or refusals (n - 1) NotSound
 
-answer_back : (a : Answer) → answer_of (number_of a) ≡ a
-answer_back Went = refl
-answer_back (Refused NotSound) = refl
-answer_back (Refused NoSuchGuest) = refl
-answer_back (Refused GuestIdle) = refl
-answer_back (Refused JobsFull) = refl
-answer_back (Refused NoRoom) = refl
-answer_back (Refused DeadlineTooFar) = refl
-answer_back (Refused EndOfTime) = refl
-answer_back (Refused ImageLength) = refl
-answer_back (Refused UnknownEdition) = refl
-answer_back (Refused GuestCount) = refl
-answer_back (Refused WrongOffset) = refl
-answer_back (Refused FrameRange) = refl
-answer_back (Refused BadGuest) = refl
-answer_back (Refused ShareTooLarge) = refl
-answer_back (Refused BufferShort) = refl
-answer_back (Refused Malformed) = refl
+refusal_back : (r : Refusal) → refusal_of (refusal_number r) ≡ r
+refusal_back NotSound = refl
+refusal_back NoSuchGuest = refl
+refusal_back GuestIdle = refl
+refusal_back JobsFull = refl
+refusal_back NoRoom = refl
+refusal_back DeadlineTooFar = refl
+refusal_back EndOfTime = refl
+refusal_back ImageLength = refl
+refusal_back UnknownEdition = refl
+refusal_back GuestCount = refl
+refusal_back WrongOffset = refl
+refusal_back FrameRange = refl
+refusal_back BadGuest = refl
+refusal_back ShareTooLarge = refl
+refusal_back BufferShort = refl
+refusal_back Malformed = refl
 
-answer_same : (a b : Answer) → number_of a ≡ number_of b → a ≡ b
-answer_same a b e = sym (answer_back a) ∙ ap answer_of e ∙ answer_back b
+refusal_same : (x y : Refusal) → refusal_number x ≡ refusal_number y → x ≡ y
+refusal_same x y e = sym (refusal_back x) ∙ ap refusal_of e ∙ refusal_back y
+
+-- a refusal's number is above 0, since the refusal of 0 has the number 1
+pub refusal_counts : (r : Refusal) → 0 < refusal_number r
+refusal_counts r = by_leb (λ t. 0 < refusal_number r) 1 (refusal_number r) (λ h. h) (λ h. absurd (above (omega arith)))
+  where
+    above : refusal_number r ≡ 0 → ⊥
+    above e = let one : refusal_number r ≡ 1 = ap refusal_number (sym (refusal_back r) ∙ ap refusal_of e) in omega arith
+
+-- the number tells a refusal from every value, and which it is
+pub answer_same : {A : Type 0} (z : A) (x y : Result A Refusal) → number_of x ≡ number_of y → result_unwrap_or x z ≡ result_unwrap_or y z → x ≡ y
+answer_same z (Ok x) (Ok y) number value = ap Ok value
+answer_same z (Ok x) (Err r) number value = absurd (omega (arith, refusal_counts r))
+answer_same z (Err r) (Ok y) number value = absurd (omega (arith, refusal_counts r))
+answer_same z (Err r) (Err q) number value = ap Err (refusal_same r q number)
 
 abbrev declared_source : Source → DeclaredSource
 declared_source own_budget = Own
@@ -120,18 +131,12 @@ answers_determined = record { number = answer_same; portion = portion_same; use_
 
 -- ---- the calls
 
--- two answers with the number of one call
-answers : (n : ℕ) (a b : Answer) → number_of a ≡ n → number_of b ≡ n → a ≡ b
-answers n a b p q = answer_same a b (p ∙ sym q)
+-- two answers with the number and the value of one call
+same : {A : Type 0} {n : ℕ} {v : A} (z : A) (x y : Result A Refusal) → number_of x ≡ n → number_of y ≡ n → result_unwrap_or x z ≡ v → result_unwrap_or y z ≡ v → x ≡ y
+same z x y p q u v = answer_same z x y (p ∙ sym q) (u ∙ sym v)
 
-outcomes : (n : ℕ) (s : State) (x y : Outcome) → number_of x.answer ≡ n → number_of y.answer ≡ n → x.state ≡ s → y.state ≡ s → x ≡ y
-outcomes n s x y p q u v =
-    let answer = answers n x.answer y.answer p q in
-    let state = u ∙ sym v in
-    λ i. record { answer = answer i; state = state i }
-
-moves : (rows : List Row) (step : Model → Model) (s : State) (x y : Outcome) → Moved rows step s x → Moved rows step s y → x ≡ y
-moves rows step s x y p q = outcomes _ _ x y p.answer q.answer p.state q.state
+moves : (rows : List Row) (step : Model → Model) (s : State) (x y : Result State Refusal) → Moved rows step s x → Moved rows step s y → x ≡ y
+moves rows step s x y p q = same s x y p.answer q.answer p.state q.state
 
 pub one_outcome : OneOutcome
 one_outcome =
@@ -140,48 +145,31 @@ one_outcome =
       done = λ s i x y p q. moves _ _ s x y p q;
       advance = λ s k x y p q. moves _ _ s x y p q;
       walk = λ s k x y p q.
-          let answer = answers _ x.answer y.answer p.answer q.answer in
           let state = p.state ∙ sym q.state in
           let left = p.left ∙ sym q.left in
           let count = p.shown ∙ sym q.shown in
           let lines = p.lines ∙ sym q.lines in
-          λ i. record { answer = answer i; state = state i; left = left i; shown = count i; lines = lines i };
-      ask = λ s x y p q.
-          let answer = answers _ x.answer y.answer p.answer q.answer in
-          let next = portion_same x.next y.next (p.next ∙ sym q.next) in
-          λ i. record { answer = answer i; next = next i };
+          answer_same (no_walk s) x y (p.answer ∙ sym q.answer) (λ i. record { state = state i; left = left i; shown = count i; lines = lines i });
+      ask = λ s x y p q. answer_same Nothing x y (p.answer ∙ sym q.answer) (portion_same _ _ (p.next ∙ sym q.next));
       active = λ s x y p q.
-          let answer = answers _ x.answer y.answer p.answer q.answer in
           let mask = p.mask ∙ sym q.mask in
           let count = p.actives ∙ sym q.actives in
-          λ i. record { answer = answer i; mask = mask i; actives = count i };
-      margin = λ s i x y p q.
-          let answer = answers _ x.answer y.answer p.answer q.answer in
-          let ticks = p.ticks ∙ sym q.ticks in
-          λ j. record { answer = answer j; ticks = ticks j };
-      fresh = λ t x y p q. outcomes _ _ x y p.answer q.answer p.state q.state;
-      check = λ t x y p q. answers _ x y p.answer q.answer;
+          answer_same nobody x y (p.answer ∙ sym q.answer) (λ i. record { mask = mask i; actives = count i });
+      margin = λ s i x y p q. same (pos 0) x y p.answer q.answer p.ticks q.ticks;
+      fresh = λ t x y p q. same no_state x y p.answer q.answer p.state q.state;
+      check = λ t x y p q. same tt x y p.answer q.answer refl refl;
       no_table_made = λ x y p q. p.table ∙ sym q.table;
-      read = λ image x y p q.
-          let answer = answers _ x.answer y.answer p.answer q.answer in
-          let table = p.table ∙ sym q.table in
-          λ i. record { answer = answer i; table = table i };
+      no_state_made = λ x y p q. p.state ∙ sym q.state;
+      read = λ image x y p q. same no_table x y p.answer q.answer p.table q.table;
       entries = λ image i j x y p q. (p.place ∙ sym q.place, p.bytes ∙ sym q.bytes);
       number = λ a x y p q. p.answer ∙ sym q.answer;
       boot = λ image x y p q. p.answer ∙ sym q.answer;
-      write = λ t buffer a b x y p q. (answers _ a b p.answer q.answer, p.content ∙ sym q.content);
+      write = λ t buffer a b x y p q. (same tt a b p.answer q.answer refl refl, p.content ∙ sym q.content);
     }
 
 -- ---- what a refusal gives back
 
--- a refusal's number is above 0
-pub refusal_counts : (r : Refusal) → 0 < refusal_number r
-refusal_counts r = by_leb (λ t. 0 < refusal_number r) 1 (refusal_number r) (λ h. h) (λ h. absurd (apart (answer_same (Refused r) Went (omega arith))))
-  where
-    apart : Refused r ≡ Went → ⊥
-    apart e = let z : ◌≡◌ {A = ℕ} 0 1 = cc in omega arith
-
--- and a number above 0 is a refusal's
+-- a number above 0 is a refusal's
 pub kept_back : {A : Type 0} (n : ℕ) (x z : A) → 0 < n → kept n x z ≡ z
 kept_back zero x z h = absurd (omega arith)
 kept_back (suc n) x z h = refl
@@ -190,10 +178,10 @@ told_back : {A : Type 0} (n : ℕ) (f : Model → A) (z : A) (s : State) → 0 <
 told_back zero f z s h = absurd (omega arith)
 told_back (suc n) f z s h = refl
 
-moved_back : (rows : List Row) (step : Model → Model) (s : State) (r : Outcome) → Moved rows step s r → 0 < number_of r.answer → r.state ≡ s
+moved_back : (rows : List Row) (step : Model → Model) (s : State) (r : Result State Refusal) → Moved rows step s r → 0 < number_of r → result_unwrap_or r s ≡ s
 moved_back rows step s r p h = p.state ∙ told_back (first rows) _ s s (rw p.answer at h)
 
-walk_back : (s : State) (k : ℕ) (r : Walk) → Walked s k r → 0 < first (advance_rows s k) → (r.state ≡ s) × (r.left ≡ 0) × (r.shown ≡ 0) × (r.lines ≡ replicate line_places no_line)
+walk_back : (s : State) (k : ℕ) (r : Result Walk Refusal) → Walked s k r → 0 < first (advance_rows s k) → let w = result_unwrap_or r (no_walk s) in (w.state ≡ s) × (w.left ≡ 0) × (w.shown ≡ 0) × (w.lines ≡ replicate line_places no_line)
 unfolding walk_state walk_left walk_lines
 walk_back s k r p h =
     let lines : walk_lines k s ≡ [] = told_back _ _ [] s h in
@@ -206,7 +194,7 @@ refusal_gives_back =
       done = λ s i r p h. moved_back _ _ s r p h;
       advance = λ s k r p h. moved_back _ _ s r p h;
       walk = λ s k r p h. walk_back s k r p (rw p.answer at h);
-      ask = λ s r p h. portion_same r.next Nothing (p.next ∙ told_back _ _ nothing_to_do s (rw p.answer at h));
+      ask = λ s r p h. portion_same _ Nothing (p.next ∙ told_back _ _ nothing_to_do s (rw p.answer at h));
       active = λ s r p h. (p.mask ∙ told_back _ _ 0 s (rw p.answer at h), p.actives ∙ told_back _ _ 0 s (rw p.answer at h));
       margin = λ s i r p h. p.ticks ∙ told_back _ _ (pos 0) s (rw p.answer at h);
       fresh = λ t r p h. p.state ∙ kept_back _ _ no_state (rw p.answer at h);

@@ -1,7 +1,6 @@
 -- Rows that hold the words of the promises: what each of them says of written-out numbers.
-use Rattle.std.specs.Prelude.{◌≡◌, true, false, List, [], ◌∷◌, map, length, drop}
+use Rattle.std.specs.Prelude.{◌≡◌, true, false, List, [], ◌∷◌, map, length, drop, Ok, Err}
 use Rattle.rules.specs.declared.Refusal.TheVariants.{EndOfTime}
-use Rattle.rules.specs.declared.Answer.TheVariants.{Went, Refused}
 use Rattle.rules.specs.Refusals.{Row, ◌gives◌}
 use Rattle.rules.specs.Model.{guest, spare}
 use Rattle.rules.specs.Steps.{own_budget, spare_of, runs, burns, nothing, limited, endless, portion}
@@ -82,7 +81,7 @@ pub record WordsHeld : Type 0 where
   pub budget_overdue : NothingOverdue (then 11 (of 1 1 11 ∷ []) [] 4 6) → ⊥
   pub spare_overdue : NothingOverdue (then 11 (of 0 0 11 ∷ []) (spare 11 0 1 ∷ []) 4 6) → ⊥
   -- a walk of 7 ticks that left 2 is an advance by 5; a refused one is refused as it was asked for
-  pub walk_made : walk_call 7 (record { answer = Went; state = sample; left = 2; shown = 0; lines = [] }) ≡ advances 5
-  pub walk_refused : walk_call 7 (record { answer = Refused EndOfTime; state = sample; left = 0; shown = 0; lines = [] }) ≡ advances 7
+  pub walk_made : walk_call 7 (Ok (record { state = sample; left = 2; shown = 0; lines = [] })) ≡ advances 5
+  pub walk_refused : walk_call 7 (Err EndOfTime) ≡ advances 7
   pub bits : (bit 0 6 ∷ bit 1 6 ∷ bit 2 6 ∷ bit 3 6 ∷ []) ≡ 0 ∷ 1 ∷ 1 ∷ 0 ∷ []
   pub active_ones : actives four ≡ guest 1 8 1 1 9 0 0 ∷ guest 1 8 3 1 9 0 0 ∷ []

@@ -1,38 +1,39 @@
 -- Calls of the code one after the other, known by their contracts alone, and that they are runs in the sense of the promises.
-use Rattle.std.specs.Prelude.{◌≡◌, List, [], ◌∷◌, ◌++◌, ℕ, ◌+◌, ◌-◌, ◌≤◌}
+use Rattle.std.specs.Prelude.{◌≡◌, List, [], ◌∷◌, ◌++◌, ℕ, ◌+◌, ◌-◌, ◌≤◌, ℤ, Result, Ok, Err}
+use Rattle.std.specs.Result.{result_unwrap_or}
 use Rattle.rules.specs.declared.Table.{Table}
 use Rattle.rules.specs.declared.State.{State}
-use Rattle.rules.specs.declared.Outcome.{Outcome}
-use Rattle.rules.specs.declared.Asked.{Asked}
 use Rattle.rules.specs.declared.Activity.{Activity}
-use Rattle.rules.specs.declared.Margin.{Margin}
+use Rattle.rules.specs.declared.Portion.{Portion}
+use Rattle.rules.specs.declared.Refusal.{Refusal}
 use Rattle.rules.specs.declared.Walk.{Walk}
 use Rattle.rules.specs.Refusals.{first, number_of}
 use Rattle.rules.specs.Table.{table_rows}
 use Rattle.rules.specs.Model.{budget_of, deadline_of, own_of}
 use Rattle.rules.specs.Places.{model, fresh_state}
-use Rattle.rules.specs.Calls.{kept, named, Arrived, Finished, Advanced, AskedFor, ActiveTold, MarginTold, Freshened, Call, arrives, finishes, advances, asks, asks_active, asks_margin, state_after, run}
-use Rattle.rules.specs.Walks.{Walked}
+use Rattle.rules.specs.Calls.{named, Arrived, Finished, Advanced, AskedFor, ActiveTold, MarginTold, Freshened, Call, arrives, finishes, advances, asks, asks_active, asks_margin, state_after, run}
+use Rattle.rules.specs.Walks.{no_walk, Walked}
 use Rattle.promises.specs.Runs.{passed}
 use Rattle.promises.specs.Promises.{NothingOverdue, Wakes, StaysActive}
 
 -- ---- what was called, and the state that it left
 
 -- a walk is an advance by the ticks that it made; a refused one made none
-abbrev pub walk_call : ℕ → Walk → Call
-walk_call k r = advances (kept (number_of r.answer) (k - r.left) k)
+abbrev pub walk_call : ℕ → Result Walk Refusal → Call
+walk_call k (Ok w) = advances (k - w.left)
+walk_call k (Err r) = advances k
 
 -- a fresh state that was accepted, and then any calls, accepted or refused, each on the state that the last one gave back; of each call
 -- nothing is known but its contract
 pub data History (t : Table) : List Call → State → Type 0 where
-  begun : (r : Outcome) → Freshened t r → number_of r.answer ≡ 0 → History t [] r.state
-  arrived : {cs : List Call} {s : State} → History t cs s → (i : ℕ) (r : Outcome) → Arrived s i r → History t (cs ++ (arrives i ∷ [])) r.state
-  finished : {cs : List Call} {s : State} → History t cs s → (i : ℕ) (r : Outcome) → Finished s i r → History t (cs ++ (finishes i ∷ [])) r.state
-  advanced : {cs : List Call} {s : State} → History t cs s → (k : ℕ) (r : Outcome) → Advanced s k r → History t (cs ++ (advances k ∷ [])) r.state
-  walked : {cs : List Call} {s : State} → History t cs s → (k : ℕ) (r : Walk) → Walked s k r → History t (cs ++ (walk_call k r ∷ [])) r.state
-  asked : {cs : List Call} {s : State} → History t cs s → (r : Asked) → AskedFor s r → History t (cs ++ (asks ∷ [])) s
-  asked_active : {cs : List Call} {s : State} → History t cs s → (r : Activity) → ActiveTold s r → History t (cs ++ (asks_active ∷ [])) s
-  asked_margin : {cs : List Call} {s : State} → History t cs s → (i : ℕ) (r : Margin) → MarginTold s i r → History t (cs ++ (asks_margin i ∷ [])) s
+  begun : (s : State) → Freshened t (Ok s) → History t [] s
+  arrived : {cs : List Call} {s : State} → History t cs s → (i : ℕ) (r : Result State Refusal) → Arrived s i r → History t (cs ++ (arrives i ∷ [])) (result_unwrap_or r s)
+  finished : {cs : List Call} {s : State} → History t cs s → (i : ℕ) (r : Result State Refusal) → Finished s i r → History t (cs ++ (finishes i ∷ [])) (result_unwrap_or r s)
+  advanced : {cs : List Call} {s : State} → History t cs s → (k : ℕ) (r : Result State Refusal) → Advanced s k r → History t (cs ++ (advances k ∷ [])) (result_unwrap_or r s)
+  walked : {cs : List Call} {s : State} → History t cs s → (k : ℕ) (r : Result Walk Refusal) → Walked s k r → History t (cs ++ (walk_call k r ∷ [])) (result_unwrap_or r (no_walk s)).state
+  asked : {cs : List Call} {s : State} → History t cs s → (r : Result Portion Refusal) → AskedFor s r → History t (cs ++ (asks ∷ [])) s
+  asked_active : {cs : List Call} {s : State} → History t cs s → (r : Result Activity Refusal) → ActiveTold s r → History t (cs ++ (asks_active ∷ [])) s
+  asked_margin : {cs : List Call} {s : State} → History t cs s → (i : ℕ) (r : Result ℤ Refusal) → MarginTold s i r → History t (cs ++ (asks_margin i ∷ [])) s
 
 -- ---- it is a run
 
@@ -42,13 +43,13 @@ HistoryIsRun = (t : Table) (cs : List Call) (s : State) → History t cs s → (
 
 -- so none of the calls answers 1
 pub record NeverOne : Type 0 where
-  pub arrive : (t : Table) (cs : List Call) (s : State) → History t cs s → (i : ℕ) (r : Outcome) → Arrived s i r → number_of r.answer ≡ 1 → ⊥
-  pub done : (t : Table) (cs : List Call) (s : State) → History t cs s → (i : ℕ) (r : Outcome) → Finished s i r → number_of r.answer ≡ 1 → ⊥
-  pub advance : (t : Table) (cs : List Call) (s : State) → History t cs s → (k : ℕ) (r : Outcome) → Advanced s k r → number_of r.answer ≡ 1 → ⊥
-  pub walk : (t : Table) (cs : List Call) (s : State) → History t cs s → (k : ℕ) (r : Walk) → Walked s k r → number_of r.answer ≡ 1 → ⊥
-  pub ask : (t : Table) (cs : List Call) (s : State) → History t cs s → (r : Asked) → AskedFor s r → number_of r.answer ≡ 1 → ⊥
-  pub active : (t : Table) (cs : List Call) (s : State) → History t cs s → (r : Activity) → ActiveTold s r → number_of r.answer ≡ 1 → ⊥
-  pub margin : (t : Table) (cs : List Call) (s : State) → History t cs s → (i : ℕ) (r : Margin) → MarginTold s i r → number_of r.answer ≡ 1 → ⊥
+  pub arrive : (t : Table) (cs : List Call) (s : State) → History t cs s → (i : ℕ) (r : Result State Refusal) → Arrived s i r → number_of r ≡ 1 → ⊥
+  pub done : (t : Table) (cs : List Call) (s : State) → History t cs s → (i : ℕ) (r : Result State Refusal) → Finished s i r → number_of r ≡ 1 → ⊥
+  pub advance : (t : Table) (cs : List Call) (s : State) → History t cs s → (k : ℕ) (r : Result State Refusal) → Advanced s k r → number_of r ≡ 1 → ⊥
+  pub walk : (t : Table) (cs : List Call) (s : State) → History t cs s → (k : ℕ) (r : Result Walk Refusal) → Walked s k r → number_of r ≡ 1 → ⊥
+  pub ask : (t : Table) (cs : List Call) (s : State) → History t cs s → (r : Result Portion Refusal) → AskedFor s r → number_of r ≡ 1 → ⊥
+  pub active : (t : Table) (cs : List Call) (s : State) → History t cs s → (r : Result Activity Refusal) → ActiveTold s r → number_of r ≡ 1 → ⊥
+  pub margin : (t : Table) (cs : List Call) (s : State) → History t cs s → (i : ℕ) (r : Result ℤ Refusal) → MarginTold s i r → number_of r ≡ 1 → ⊥
 
 -- ---- demand 3 of the states that come back
 

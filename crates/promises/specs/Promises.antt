@@ -1,17 +1,14 @@
 -- Every promise of the rules as a named statement; proofs/ proves each under the same name with small letters.
-use Rattle.std.specs.Prelude.{◌≡◌, Bool, true, false, cond, ◌&&◌, List, [], ◌∷◌, map, ◌↔◌, ℕ, zero, suc, ◌+◌, ◌/◌, ◌%◌, ◌≤◌, ◌<◌, ltb, pos, ◌+ℤ◌, length, take, drop, replicate}
+use Rattle.std.specs.Prelude.{◌≡◌, Bool, true, false, cond, ◌&&◌, List, [], ◌∷◌, map, ◌↔◌, ℕ, zero, suc, ◌+◌, ◌/◌, ◌%◌, ◌≤◌, ◌<◌, ltb, ℤ, pos, ◌+ℤ◌, length, take, drop, replicate, ⊤, Result, Ok}
+use Rattle.std.specs.Result.{result_unwrap_or}
 use Rattle.std.specs.Int.Count.{ones}
 use Rattle.std.proofs.Math.Pow.{are_bytes}
 use Rattle.rules.specs.declared.Table.{Table}
 use Rattle.rules.specs.declared.State.{State}
-use Rattle.rules.specs.declared.Answer.{Answer}
-use Rattle.rules.specs.declared.Outcome.{Outcome}
 use Rattle.rules.specs.declared.Portion.{Portion as DeclaredPortion}
 use Rattle.rules.specs.declared.Portion.TheVariants.{Nothing}
-use Rattle.rules.specs.declared.Asked.{Asked}
 use Rattle.rules.specs.declared.Activity.{Activity}
-use Rattle.rules.specs.declared.Margin.{Margin}
-use Rattle.rules.specs.declared.Loaded.{Loaded}
+use Rattle.rules.specs.declared.Refusal.{Refusal}
 use Rattle.rules.specs.declared.Use.{Use as DeclaredUse}
 use Rattle.rules.specs.declared.Walk.{Walk}
 use Rattle.rules.specs.Limits.{last_tick, line_places}
@@ -22,8 +19,8 @@ use Rattle.rules.specs.Steps.{own_budget, spare_of, Use, runs, burns, nothing, S
 use Rattle.rules.specs.Places.{model, packed, fresh_state, no_state}
 use Rattle.rules.specs.Sound.{sound}
 use Rattle.rules.specs.Image.{offset_in, table_in, read_rows, image_of, image_length, write_rows, overwritten}
-use Rattle.rules.specs.Calls.{named, arrives, arrive_rows, done_rows, advance_rows, ask_rows, margin_rows, portion_of, Arrived, Finished, Advanced, AskedFor, ActiveTold, MarginTold, Freshened, TableChecked, NoTableMade, TableRead, EntriesHanded, NumberTold, ImageChecked, TableWritten, Call, advances, number_given, state_after, run}
-use Rattle.rules.specs.Walks.{declared_use, use_in, Walked, no_line}
+use Rattle.rules.specs.Calls.{named, arrives, arrive_rows, done_rows, advance_rows, ask_rows, margin_rows, portion_of, Arrived, Finished, Advanced, AskedFor, nobody, ActiveTold, MarginTold, Freshened, TableChecked, NoTableMade, NoStateMade, TableRead, EntriesHanded, NumberTold, ImageChecked, TableWritten, Call, advances, number_given, state_after, run}
+use Rattle.rules.specs.Walks.{declared_use, use_in, no_walk, Walked, no_line}
 use Rattle.promises.specs.Runs.{after_all, events, passed, own_ticks, borrowed_ticks}
 use Rattle.promises.specs.Needed.{line212_state, overfull_rows, line212_rows}
 use Rattle.rules.specs.Samples.{alone}
@@ -120,19 +117,19 @@ SmallestGiven =
 -- "The state comes back as it was; a refused table or fresh state is all zeros; lent bytes keep their values; asked-for numbers are 0, and
 -- Ask says nothing to do."
 pub record RefusalGivesBack : Type 0 where
-  pub arrive : (s : State) (i : ℕ) (r : Outcome) → Arrived s i r → 0 < number_of r.answer → r.state ≡ s
-  pub done : (s : State) (i : ℕ) (r : Outcome) → Finished s i r → 0 < number_of r.answer → r.state ≡ s
-  pub advance : (s : State) (k : ℕ) (r : Outcome) → Advanced s k r → 0 < number_of r.answer → r.state ≡ s
+  pub arrive : (s : State) (i : ℕ) (r : Result State Refusal) → Arrived s i r → 0 < number_of r → result_unwrap_or r s ≡ s
+  pub done : (s : State) (i : ℕ) (r : Result State Refusal) → Finished s i r → 0 < number_of r → result_unwrap_or r s ≡ s
+  pub advance : (s : State) (k : ℕ) (r : Result State Refusal) → Advanced s k r → 0 < number_of r → result_unwrap_or r s ≡ s
   pub walk :
-      (s : State) (k : ℕ) (r : Walk) → Walked s k r → 0 < number_of r.answer
-      → (r.state ≡ s) × (r.left ≡ 0) × (r.shown ≡ 0) × (r.lines ≡ replicate line_places no_line)
-  pub ask : (s : State) (r : Asked) → AskedFor s r → 0 < number_of r.answer → r.next ≡ Nothing
-  pub active : (s : State) (r : Activity) → ActiveTold s r → 0 < number_of r.answer → (r.mask ≡ 0) × (r.actives ≡ 0)
-  pub margin : (s : State) (i : ℕ) (r : Margin) → MarginTold s i r → 0 < number_of r.answer → r.ticks ≡ pos 0
-  pub fresh : (t : Table) (r : Outcome) → Freshened t r → 0 < number_of r.answer → r.state ≡ no_state
-  pub read : (image : List ℕ) (r : Loaded) → TableRead image r → 0 < number_of r.answer → r.table ≡ no_table
+      (s : State) (k : ℕ) (r : Result Walk Refusal) → Walked s k r → 0 < number_of r
+      → let w = result_unwrap_or r (no_walk s) in (w.state ≡ s) × (w.left ≡ 0) × (w.shown ≡ 0) × (w.lines ≡ replicate line_places no_line)
+  pub ask : (s : State) (r : Result DeclaredPortion Refusal) → AskedFor s r → 0 < number_of r → result_unwrap_or r Nothing ≡ Nothing
+  pub active : (s : State) (r : Result Activity Refusal) → ActiveTold s r → 0 < number_of r → ((result_unwrap_or r nobody).mask ≡ 0) × ((result_unwrap_or r nobody).actives ≡ 0)
+  pub margin : (s : State) (i : ℕ) (r : Result ℤ Refusal) → MarginTold s i r → 0 < number_of r → result_unwrap_or r (pos 0) ≡ pos 0
+  pub fresh : (t : Table) (r : Result State Refusal) → Freshened t r → 0 < number_of r → result_unwrap_or r no_state ≡ no_state
+  pub read : (image : List ℕ) (r : Result Table Refusal) → TableRead image r → 0 < number_of r → result_unwrap_or r no_table ≡ no_table
   pub entries : (image : List ℕ) (start : ℕ) (part : List ℕ) → EntriesHanded image start part → 0 < first (read_rows image) → (start ≡ 0) × (part ≡ [])
-  pub write : (t : Table) (buffer : List ℕ) (a : Answer) (after : List ℕ) → TableWritten t buffer a after → 0 < number_of a → after ≡ buffer
+  pub write : (t : Table) (buffer : List ℕ) (a : Result ⊤ Refusal) (after : List ℕ) → TableWritten t buffer a after → 0 < number_of a → after ≡ buffer
 
 -- ---- demand 2, what a tick uses
 
@@ -295,13 +292,13 @@ actives (g ∷ gs) = cond (active g) (g ∷ actives gs) (actives gs)
 -- "a mask, bit i for guest i, and the number of active guests": bit i of the answered mask is 1 if and only if guest i is active, for every i,
 -- and the answered count is how many of the guests are
 pub record ActivityMeant : Type 0 where
-  pub mask : (s : State) (r : Activity) → ActiveTold s r → number_of r.answer ≡ 0 → (i : ℕ) → (bit i r.mask ≡ 1) ↔ (active (named s i) ≡ true)
-  pub count : (s : State) (r : Activity) → ActiveTold s r → number_of r.answer ≡ 0 → r.actives ≡ length (actives (model s).guests)
+  pub mask : (s : State) (r : Activity) → ActiveTold s (Ok r) → (i : ℕ) → (bit i r.mask ≡ 1) ↔ (active (named s i) ≡ true)
+  pub count : (s : State) (r : Activity) → ActiveTold s (Ok r) → r.actives ≡ length (actives (model s).guests)
 
 -- "Margin of a guest is its deadline less the present tick": the answered margin and the present tick add up to the deadline
 abbrev pub MarginMeant : Type 0
 MarginMeant =
-    (s : State) (i : ℕ) (r : Margin) → MarginTold s i r → number_of r.answer ≡ 0 → r.ticks +ℤ pos s.now ≡ pos (deadline_of (named s i))
+    (s : State) (i : ℕ) (ticks : ℤ) → MarginTold s i (Ok ticks) → ticks +ℤ pos s.now ≡ pos (deadline_of (named s i))
 
 -- ---- images
 
@@ -325,35 +322,36 @@ ReadIsWritten = (image : List ℕ) → are_bytes image ≡ true → first (read_
 -- offset 0, `write` gives back byte by byte
 pub record RoundTrip : Type 0 where
   pub written_read :
-      (t : Table) (buffer after : List ℕ) (a : Answer) (l : Loaded) → TableWritten t buffer a after → number_of a ≡ 0
-      → TableRead (take (image_length t) after) l → (number_of l.answer ≡ 0) × (l.table ≡ t)
+      (t : Table) (buffer after : List ℕ) (l : Result Table Refusal) → TableWritten t buffer (Ok tt) after
+      → TableRead (take (image_length t) after) l → l ≡ Ok t
   pub read_written :
-      (image buffer after : List ℕ) (l : Loaded) (a : Answer) → are_bytes image ≡ true → TableRead image l → number_of l.answer ≡ 0
-      → offset_in image ≡ 0 → TableWritten l.table buffer a after → number_of a ≡ 0 → take (length image) after ≡ image
+      (image buffer after : List ℕ) (t : Table) → are_bytes image ≡ true → TableRead image (Ok t) → offset_in image ≡ 0
+      → TableWritten t buffer (Ok tt) after → take (length image) after ≡ image
 
 -- ---- one outcome
 
 -- the number and the values determine an answer
-pub record AnswersDetermined : Type 0 where
-  pub number : (a b : Answer) → number_of a ≡ number_of b → a ≡ b
+pub record AnswersDetermined : Type 1 where
+  pub number : {A : Type 0} (z : A) (a b : Result A Refusal) → number_of a ≡ number_of b → result_unwrap_or a z ≡ result_unwrap_or b z → a ≡ b
   pub portion : (x y : DeclaredPortion) → portion_of x ≡ portion_of y → x ≡ y
   pub use_of : (x y : DeclaredUse) → use_in x ≡ use_in y → x ≡ y
   pub use_said : (u : Use) → use_in (declared_use u) ≡ u
 
 -- any two outcomes that a call's predicate allows are equal
-pub record OneOutcome : Type 0 where
-  pub arrive : (s : State) (i : ℕ) (x y : Outcome) → Arrived s i x → Arrived s i y → x ≡ y
-  pub done : (s : State) (i : ℕ) (x y : Outcome) → Finished s i x → Finished s i y → x ≡ y
-  pub advance : (s : State) (k : ℕ) (x y : Outcome) → Advanced s k x → Advanced s k y → x ≡ y
-  pub walk : (s : State) (k : ℕ) (x y : Walk) → Walked s k x → Walked s k y → x ≡ y
-  pub ask : (s : State) (x y : Asked) → AskedFor s x → AskedFor s y → x ≡ y
-  pub active : (s : State) (x y : Activity) → ActiveTold s x → ActiveTold s y → x ≡ y
-  pub margin : (s : State) (i : ℕ) (x y : Margin) → MarginTold s i x → MarginTold s i y → x ≡ y
-  pub fresh : (t : Table) (x y : Outcome) → Freshened t x → Freshened t y → x ≡ y
-  pub check : (t : Table) (x y : Answer) → TableChecked t x → TableChecked t y → x ≡ y
+pub record OneOutcome : Type 1 where
+  pub arrive : (s : State) (i : ℕ) (x y : Result State Refusal) → Arrived s i x → Arrived s i y → x ≡ y
+  pub done : (s : State) (i : ℕ) (x y : Result State Refusal) → Finished s i x → Finished s i y → x ≡ y
+  pub advance : (s : State) (k : ℕ) (x y : Result State Refusal) → Advanced s k x → Advanced s k y → x ≡ y
+  pub walk : (s : State) (k : ℕ) (x y : Result Walk Refusal) → Walked s k x → Walked s k y → x ≡ y
+  pub ask : (s : State) (x y : Result DeclaredPortion Refusal) → AskedFor s x → AskedFor s y → x ≡ y
+  pub active : (s : State) (x y : Result Activity Refusal) → ActiveTold s x → ActiveTold s y → x ≡ y
+  pub margin : (s : State) (i : ℕ) (x y : Result ℤ Refusal) → MarginTold s i x → MarginTold s i y → x ≡ y
+  pub fresh : (t : Table) (x y : Result State Refusal) → Freshened t x → Freshened t y → x ≡ y
+  pub check : (t : Table) (x y : Result ⊤ Refusal) → TableChecked t x → TableChecked t y → x ≡ y
   pub no_table_made : (x y : Table) → NoTableMade x → NoTableMade y → x ≡ y
-  pub read : (image : List ℕ) (x y : Loaded) → TableRead image x → TableRead image y → x ≡ y
+  pub no_state_made : (x y : State) → NoStateMade x → NoStateMade y → x ≡ y
+  pub read : (image : List ℕ) (x y : Result Table Refusal) → TableRead image x → TableRead image y → x ≡ y
   pub entries : (image : List ℕ) (i j : ℕ) (x y : List ℕ) → EntriesHanded image i x → EntriesHanded image j y → (i ≡ j) × (x ≡ y)
-  pub number : (a : Answer) (x y : ℕ) → NumberTold a x → NumberTold a y → x ≡ y
+  pub number : {A : Type 0} (a : Result A Refusal) (x y : ℕ) → NumberTold a x → NumberTold a y → x ≡ y
   pub boot : (image : List ℕ) (x y : ℕ) → ImageChecked image x → ImageChecked image y → x ≡ y
-  pub write : (t : Table) (buffer : List ℕ) (a b : Answer) (x y : List ℕ) → TableWritten t buffer a x → TableWritten t buffer b y → (a ≡ b) × (x ≡ y)
+  pub write : (t : Table) (buffer : List ℕ) (a b : Result ⊤ Refusal) (x y : List ℕ) → TableWritten t buffer a x → TableWritten t buffer b y → (a ≡ b) × (x ≡ y)

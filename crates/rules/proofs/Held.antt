@@ -281,6 +281,7 @@ outcomes_held =
       ask_rests = record { answer = refl; next = refl };
       ask-refused = record { answer = refl; next = refl };
       active = record { answer = refl; mask = refl; actives = refl };
+      nobody_row = refl;
       active-refused = record { answer = refl; mask = refl; actives = refl };
       margin = record { answer = refl; ticks = refl };
       margin-second = record { answer = refl; ticks = refl };
@@ -292,6 +293,7 @@ outcomes_held =
       check = record { answer = refl };
       check_refused = record { answer = refl };
       no_table_row = record { table = refl };
+      no_state_row = record { state = refl };
       number = record { answer = refl };
       number_of_0 = record { answer = refl };
     }
@@ -338,6 +340,7 @@ walks_held =
       walked = record { answer = refl; state = refl; left = refl; shown = refl; lines = refl };
       walked_to_the_end = record { answer = refl; state = refl; left = refl; shown = refl; lines = refl };
       walked_refused = record { answer = refl; state = refl; left = refl; shown = refl; lines = refl };
+      none_walked = refl;
       portions = refl;
       left = refl;
       left_at_the_end = refl;

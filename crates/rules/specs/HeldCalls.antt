@@ -1,15 +1,14 @@
 -- Rows that hold `Calls`: each number on both sides of its condition, the smaller of two, and whole outcomes of every call.
-use Rattle.std.specs.Prelude.{◌≡◌, List, [], ◌∷◌, map, ℕ, pos, negsuc}
+use Rattle.std.specs.Prelude.{◌≡◌, List, [], ◌∷◌, map, ℕ, pos, negsuc, ⊤, Ok, Err}
 use Rattle.rules.specs.declared.State.{State}
 use Rattle.rules.specs.declared.Refusal.TheVariants.{NotSound, NoSuchGuest, GuestIdle, EndOfTime, ShareTooLarge, NoRoom}
-use Rattle.rules.specs.declared.Answer.TheVariants.{Went, Refused}
 use Rattle.rules.specs.declared.Source.TheVariants.{Own, SpareOf}
 use Rattle.rules.specs.declared.Portion.TheVariants.{Run, Burn, Nothing}
 use Rattle.rules.specs.Table.{no_table}
 use Rattle.rules.specs.Model.{guest, spare}
 use Rattle.rules.specs.Steps.{own_budget, spare_of, runs, burns, nothing, limited, endless, portion}
 use Rattle.rules.specs.Places.{packed, fresh_state, no_state}
-use Rattle.rules.specs.Calls.{Call, arrives, finishes, advances, asks, asks_active, asks_margin, named, portion_of, number_given, state_after, run, Arrived, Finished, Advanced, AskedFor, ActiveTold, MarginTold, Freshened, TableChecked, NoTableMade, NumberTold}
+use Rattle.rules.specs.Calls.{Call, arrives, finishes, advances, asks, asks_active, asks_margin, named, portion_of, number_given, state_after, run, Arrived, Finished, Advanced, AskedFor, nobody, ActiveTold, MarginTold, Freshened, TableChecked, NoTableMade, NoStateMade, NumberTold}
 use Rattle.rules.specs.Samples.{◌by◌, running, resting, leftovers, sample_of, sample, with_first, with_count, lone, crowded}
 use Rattle.rules.specs.HeldTable.{counted}
 use Rattle.rules.specs.HeldSteps.{then}
@@ -62,35 +61,37 @@ pub record GivenHeld : Type 0 where
 
 -- each call's whole outcome, accepted and refused
 pub record OutcomesHeld : Type 0 where
-  pub arrive : Arrived sample 1 (record { answer = Went; state = packed (then 10 (running ∷ guest 4 8 1 4 28 2 1 ∷ []) leftovers 1 2) })
-  pub arrive-refused : Arrived sample 2 (record { answer = Refused NoSuchGuest; state = sample })
-  pub done : Finished sample 0 (record { answer = Went; state = packed (then 10 (guest 3 12 1 2 30 3 1 ∷ resting ∷ []) leftovers 1 2) })
-  pub done-second : Finished exchanged 1 (record { answer = Went; state = packed (then 10 (guest 3 12 0 0 30 3 1 ∷ guest 4 8 4 4 28 2 1 ∷ []) leftovers 1 2) })
-  pub done_refused : Finished sample 1 (record { answer = Refused GuestIdle; state = sample })
+  pub arrive : Arrived sample 1 (Ok (packed (then 10 (running ∷ guest 4 8 1 4 28 2 1 ∷ []) leftovers 1 2)))
+  pub arrive-refused : Arrived sample 2 (Err NoSuchGuest)
+  pub done : Finished sample 0 (Ok (packed (then 10 (guest 3 12 1 2 30 3 1 ∷ resting ∷ []) leftovers 1 2)))
+  pub done-second : Finished exchanged 1 (Ok (packed (then 10 (guest 3 12 0 0 30 3 1 ∷ guest 4 8 4 4 28 2 1 ∷ []) leftovers 1 2)))
+  pub done_refused : Finished sample 1 (Err GuestIdle)
   -- 4 ticks on the first spare and 1 on the second
-  pub advance : Advanced sample 5 (record { answer = Went; state = packed (then 15 (guest 3 12 2 2 30 3 6 ∷ resting ∷ []) (spare 24 0 3 ∷ []) 1 2) })
+  pub advance : Advanced sample 5 (Ok (packed (then 15 (guest 3 12 2 2 30 3 6 ∷ resting ∷ []) (spare 24 0 3 ∷ []) 1 2)))
   -- up to the end of time, and not past it
-  pub advance_to_the_end : Advanced (lone 1099511627771 0 0 0) 5 (record { answer = Went; state = lone 1099511627776 0 0 0 })
-  pub advance-refused : Advanced (lone 1099511627776 0 0 0) 1 (record { answer = Refused EndOfTime; state = lone 1099511627776 0 0 0 })
-  pub ask : AskedFor sample (record { answer = Went; next = Run 0 (SpareOf 1) 16 4 })
-  pub ask_own : AskedFor (lone 0 1 1 5) (record { answer = Went; next = Run 0 Own 5 1 })
-  pub ask_burns : AskedFor (with_first (guest 3 12 0 0 30 3 1)) (record { answer = Went; next = Burn 1 16 4 })
-  pub ask_rests : AskedFor (lone 0 0 0 5) (record { answer = Went; next = Nothing })
-  pub ask-refused : AskedFor damaged (record { answer = Refused NotSound; next = Nothing })
-  pub active : ActiveTold exchanged (record { answer = Went; mask = 2; actives = 1 })
-  pub active-refused : ActiveTold damaged (record { answer = Refused NotSound; mask = 0; actives = 0 })
-  pub margin : MarginTold sample 0 (record { answer = Went; ticks = pos 20 })
-  pub margin-second : MarginTold sample 1 (record { answer = Went; ticks = pos 10 })
-  pub margin_at : MarginTold (lone 7 0 0 7) 0 (record { answer = Went; ticks = pos 0 })
-  pub margin_below : MarginTold (lone 10 0 0 7) 0 (record { answer = Went; ticks = negsuc 2 })
-  pub margin-refused : MarginTold sample 2 (record { answer = Refused NoSuchGuest; ticks = pos 0 })
-  pub fresh : Freshened (counted 8 1 (3 by 4 ∷ [])) (record { answer = Went; state = fresh_state (counted 8 1 (3 by 4 ∷ [])) })
-  pub fresh_refused : Freshened (counted 8 2 (3 by 4 ∷ 3 by 8 ∷ [])) (record { answer = Refused ShareTooLarge; state = no_state })
-  pub check : TableChecked (counted 8 1 (3 by 4 ∷ [])) Went
-  pub check_refused : TableChecked (counted 8 2 (3 by 4 ∷ 3 by 8 ∷ [])) (Refused ShareTooLarge)
+  pub advance_to_the_end : Advanced (lone 1099511627771 0 0 0) 5 (Ok (lone 1099511627776 0 0 0))
+  pub advance-refused : Advanced (lone 1099511627776 0 0 0) 1 (Err EndOfTime)
+  pub ask : AskedFor sample (Ok (Run 0 (SpareOf 1) 16 4))
+  pub ask_own : AskedFor (lone 0 1 1 5) (Ok (Run 0 Own 5 1))
+  pub ask_burns : AskedFor (with_first (guest 3 12 0 0 30 3 1)) (Ok (Burn 1 16 4))
+  pub ask_rests : AskedFor (lone 0 0 0 5) (Ok Nothing)
+  pub ask-refused : AskedFor damaged (Err NotSound)
+  pub active : ActiveTold exchanged (Ok (record { mask = 2; actives = 1 }))
+  pub nobody_row : nobody ≡ record { mask = 0; actives = 0 }
+  pub active-refused : ActiveTold damaged (Err NotSound)
+  pub margin : MarginTold sample 0 (Ok (pos 20))
+  pub margin-second : MarginTold sample 1 (Ok (pos 10))
+  pub margin_at : MarginTold (lone 7 0 0 7) 0 (Ok (pos 0))
+  pub margin_below : MarginTold (lone 10 0 0 7) 0 (Ok (negsuc 2))
+  pub margin-refused : MarginTold sample 2 (Err NoSuchGuest)
+  pub fresh : Freshened (counted 8 1 (3 by 4 ∷ [])) (Ok (fresh_state (counted 8 1 (3 by 4 ∷ []))))
+  pub fresh_refused : Freshened (counted 8 2 (3 by 4 ∷ 3 by 8 ∷ [])) (Err ShareTooLarge)
+  pub check : TableChecked (counted 8 1 (3 by 4 ∷ [])) (Ok tt)
+  pub check_refused : TableChecked (counted 8 2 (3 by 4 ∷ 3 by 8 ∷ [])) (Err ShareTooLarge)
   pub no_table_row : NoTableMade no_table
-  pub number : NumberTold (Refused NoRoom) 5
-  pub number_of_0 : NumberTold Went 0
+  pub no_state_row : NoStateMade no_state
+  pub number : NumberTold {A = ⊤} (Err NoRoom) 5
+  pub number_of_0 : NumberTold {A = ⊤} (Ok tt) 0
 
 -- what each case of Ask's answer says, and one call after the other
 pub record AnswersHeld : Type 0 where

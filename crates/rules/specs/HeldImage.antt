@@ -1,8 +1,7 @@
 -- Rows that hold `Image`: an image byte by byte, each refusal and each two at once, and what is written into a buffer.
-use Rattle.std.specs.Prelude.{◌≡◌, false, List, [], ◌∷◌, ◌++◌, ℕ, length, replicate}
+use Rattle.std.specs.Prelude.{◌≡◌, false, List, [], ◌∷◌, ◌++◌, ℕ, length, replicate, Ok, Err}
 use Rattle.rules.specs.declared.Table.{Table}
 use Rattle.rules.specs.declared.Refusal.TheVariants.{UnknownEdition, BufferShort}
-use Rattle.rules.specs.declared.Answer.TheVariants.{Went, Refused}
 use Rattle.rules.specs.Refusals.{first, holds}
 use Rattle.rules.specs.Table.{no_table}
 use Rattle.rules.specs.Image.{little, field, trailer_at, frame_in, offset_in, count_in, edition_in, entries_in, entries_part, table_in, read_rows, bytes_of, image_of, image_length, write_rows, overwritten}
@@ -74,8 +73,8 @@ pub record ImageHeld : Type 0 where
   pub eleven_first :
       (read_gives (short 3 4 ++ trailer 0 1 1 1) ∷ read_gives (short 5 4 ++ trailer 4 1 1 1) ∷ read_gives (0 ∷ short 3 4 ++ short 3 8 ++ short 3 8 ++ trailer 8 2 2 1) ∷ []) ≡ 11 ∷ 11 ∷ 11 ∷ []
   -- whole outcomes of reading, accepted and refused
-  pub read : TableRead behind_three (record { answer = Went; table = counted 1000000 1 (66051 by 1000000 ∷ []) })
-  pub read_refused : TableRead (short 3 4 ++ trailer 4 0 1 2) (record { answer = Refused UnknownEdition; table = no_table })
+  pub read : TableRead behind_three (Ok (counted 1000000 1 (66051 by 1000000 ∷ [])))
+  pub read_refused : TableRead (short 3 4 ++ trailer 4 0 1 2) (Err UnknownEdition)
   pub handed : EntriesHanded behind_three 3 (3 ∷ 2 ∷ 1 ∷ 0 ∷ 64 ∷ 66 ∷ 15 ∷ 0 ∷ [])
   -- "after a refusal that part is the empty one at the front"
   pub handed_refused : EntriesHanded (0 ∷ short 3 4 ++ trailer 4 1 1 2) 0 []
@@ -108,5 +107,5 @@ pub record WritingHeld : Type 0 where
       (write_gives (counted 8 0 []) 0 ∷ write_gives (counted 0 1 (1 by 1 ∷ [])) 0 ∷ write_gives (counted 8 1 (5 by 4 ∷ [])) 0 ∷ write_gives (counted 8 2 (3 by 4 ∷ 3 by 8 ∷ [])) 27 ∷ [])
       ≡ 10 ∷ 12 ∷ 13 ∷ 14 ∷ []
   -- whole outcomes
-  pub wrote : TableWritten two (replicate 29 9) Went (two_image ++ (9 ∷ []))
-  pub wrote_refused : TableWritten two (replicate 27 9) (Refused BufferShort) (replicate 27 9)
+  pub wrote : TableWritten two (replicate 29 9) (Ok tt) (two_image ++ (9 ∷ []))
+  pub wrote_refused : TableWritten two (replicate 27 9) (Err BufferShort) (replicate 27 9)

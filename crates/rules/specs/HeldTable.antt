@@ -1,9 +1,8 @@
 -- Rows that hold `Refusals` and `Table`: both sides of each bound, and of two refusals the smaller one.
-use Rattle.std.specs.Prelude.{◌≡◌, true, false, List, [], ◌∷◌, map, ℕ, length, set}
+use Rattle.std.specs.Prelude.{◌≡◌, true, false, List, [], ◌∷◌, map, ℕ, length, set, ⊤, Ok, Err}
 use Rattle.rules.specs.declared.Entry.{Entry}
 use Rattle.rules.specs.declared.Table.{Table}
 use Rattle.rules.specs.declared.Refusal.TheVariants.{NotSound, NoSuchGuest, GuestIdle, JobsFull, NoRoom, DeadlineTooFar, EndOfTime, ImageLength, UnknownEdition, GuestCount, WrongOffset, FrameRange, BadGuest, ShareTooLarge, BufferShort, Malformed}
-use Rattle.rules.specs.declared.Answer.TheVariants.{Went, Refused}
 use Rattle.rules.specs.Refusals.{◌gives◌, first, numbers, holds, outside, refusal_number, number_of}
 use Rattle.rules.specs.Table.{share_of, entries_of, shares_of, table_rows, good_table, no_table}
 use Rattle.rules.specs.Samples.{◌by◌, table}
@@ -32,7 +31,7 @@ pub record RefusalsHeld : Type 0 where
       (NotSound ∷ NoSuchGuest ∷ GuestIdle ∷ JobsFull ∷ NoRoom ∷ DeadlineTooFar ∷ EndOfTime ∷ ImageLength ∷ UnknownEdition ∷ GuestCount ∷ WrongOffset ∷ FrameRange ∷ BadGuest ∷ ShareTooLarge ∷ BufferShort ∷ Malformed ∷ [])
       ≡ 1 ∷ 2 ∷ 3 ∷ 4 ∷ 5 ∷ 6 ∷ 7 ∷ 8 ∷ 9 ∷ 10 ∷ 11 ∷ 12 ∷ 13 ∷ 14 ∷ 15 ∷ 16 ∷ []
   -- "0 or the refusal number"
-  pub answered : (number_of Went ∷ number_of (Refused NoRoom) ∷ []) ≡ 0 ∷ 5 ∷ []
+  pub answered : (number_of {A = ⊤} (Ok tt) ∷ number_of {A = ⊤} (Err NoRoom) ∷ []) ≡ 0 ∷ 5 ∷ []
   -- "Where several apply, the smallest number is given."
   pub smallest : first (false gives 3 ∷ true gives 5 ∷ true gives 6 ∷ []) ≡ 5
   pub none_given : first (false gives 3 ∷ false gives 5 ∷ []) ≡ 0

@@ -1,7 +1,6 @@
 -- Rows that hold `Lines` and `Walks`: portions of every use, the lines of an advance, and whole outcomes of a walk.
-use Rattle.std.specs.Prelude.{◌≡◌, [], ◌∷◌, map, ℕ, length, replicate}
+use Rattle.std.specs.Prelude.{◌≡◌, [], ◌∷◌, map, ℕ, length, replicate, Ok, Err}
 use Rattle.rules.specs.declared.Refusal.TheVariants.{EndOfTime}
-use Rattle.rules.specs.declared.Answer.TheVariants.{Went, Refused}
 use Rattle.rules.specs.declared.Source.TheVariants.{Own, SpareOf}
 use Rattle.rules.specs.declared.Use.{Use as DeclaredUse}
 use Rattle.rules.specs.declared.Use.TheVariants.{Run, Burn, Nothing}
@@ -11,7 +10,7 @@ use Rattle.rules.specs.Steps.{own_budget, spare_of, runs, burns, nothing, limite
 use Rattle.rules.specs.Places.{packed}
 use Rattle.rules.specs.Calls.{arrives, finishes, advances, asks, asks_active, asks_margin}
 use Rattle.rules.specs.Lines.{line, ticks_on, lines, lines_of, listing}
-use Rattle.rules.specs.Walks.{ticks_in, declared_use, use_in, no_line, walk_lines, walk_state, walk_left, Walked}
+use Rattle.rules.specs.Walks.{ticks_in, declared_use, use_in, no_line, walk_lines, walk_state, walk_left, no_walk, Walked}
 use Rattle.rules.specs.Samples.{resting, sample_model, sample, lone}
 use Rattle.rules.specs.HeldSteps.{of, at10, then}
 
@@ -48,31 +47,30 @@ pub record WalksHeld : Type 0 where
   pub ticks : (ticks_in 0 7 sample_model ∷ ticks_in 1 7 sample_model ∷ ticks_in 2 7 sample_model ∷ ticks_in 3 7 sample_model ∷ ticks_in 3 0 sample_model ∷ []) ≡ 0 ∷ 4 ∷ 5 ∷ 7 ∷ 0 ∷ []
   pub walked :
       Walked sample 7
-      (record {
-        answer = Went;
+      (Ok (record {
         state = packed (then 17 (guest 3 12 2 2 30 3 8 ∷ resting ∷ []) (spare 24 0 1 ∷ []) 1 2);
         left = 0;
         shown = 3;
         lines = line_in 10 14 (Run 0 (SpareOf 1)) ∷ line_in 14 15 (Run 0 (SpareOf 1)) ∷ line_in 15 17 (Run 0 (SpareOf 0)) ∷ replicate 61 (line_in 0 0 Nothing);
-      })
+      }))
   pub walked_to_the_end :
       Walked (lone 1099511627771 0 0 0) 5
-      (record {
-        answer = Went;
+      (Ok (record {
         state = lone 1099511627776 0 0 0;
         left = 0;
         shown = 1;
         lines = line_in 1099511627771 1099511627776 Nothing ∷ replicate 63 (line_in 0 0 Nothing);
-      })
+      }))
   pub walked_refused :
-      Walked (lone 1099511627776 0 0 0) 1
-      (record {
-        answer = Refused EndOfTime;
+      Walked (lone 1099511627776 0 0 0) 1 (Err EndOfTime)
+  pub none_walked :
+      no_walk (lone 1099511627776 0 0 0)
+      ≡ record {
         state = lone 1099511627776 0 0 0;
         left = 0;
         shown = 0;
         lines = replicate 64 (line_in 0 0 Nothing);
-      })
+      }
   -- a walk answers 64 portions: a guest (1, 1) has one in each tick
   pub portions : length (walk_lines 65 (lone 0 1 1 1)) ≡ 64
   pub left : (walk_left 64 (lone 0 1 1 1) ∷ walk_left 65 (lone 0 1 1 1) ∷ []) ≡ 0 ∷ 1 ∷ []

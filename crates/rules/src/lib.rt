@@ -1,5 +1,8 @@
-// The declared types and the limits that every other crate shares. There is no code here: specs/ says what must happen.
+// The declared types and the limits that every other crate shares. The only code is each refusal's number: specs/ says what must happen.
 #![tactic(auto)]
+
+ghost use Rattle.std.specs.Prelude.{◌≡◌};
+ghost use Rattle.rules.specs.Refusals.{refusal_number};
 
 // The limits; specs/Limits.antt has them under the same words.
 pub const GUEST_PLACES: usize = 16;
@@ -24,7 +27,7 @@ pub const LONGEST_IMAGE: usize = 65536;
 
 // A guest's budget Q and period T.
 #[repr(C)]
-#[derive(Clone, Copy)]
+#[derive(Clone, Copy, Default, PartialEq, Eq)]
 pub struct Entry {
     pub budget: u64,
     pub period: u64,
@@ -42,7 +45,7 @@ pub struct Table {
 // What changes of a guest: waiting jobs, the current budget c, the deadline d, and two tallies:
 // ticks run on its own budget, ticks run on a spare.
 #[repr(C)]
-#[derive(Clone, Copy)]
+#[derive(Clone, Copy, Default, PartialEq, Eq)]
 pub struct Guest {
     pub jobs: u64,
     pub current: u64,
@@ -52,7 +55,7 @@ pub struct Guest {
 }
 
 #[repr(C)]
-#[derive(Clone, Copy)]
+#[derive(Clone, Copy, Default, PartialEq, Eq)]
 pub struct Spare {
     pub deadline: u64,
     pub owner: usize,
@@ -94,17 +97,29 @@ pub enum Refusal {
     Malformed,
 }
 
-#[derive(Clone, Copy)]
-pub enum Answer {
-    Went,
-    Refused(Refusal),
-}
+impl From<Refusal> for u32 {
+    ghost from_gives = { λ r n. n ≡ refusal_number r };
 
-// What a call that changes the state gives back.
-#[derive(Clone, Copy)]
-pub struct Outcome {
-    pub answer: Answer,
-    pub state: State,
+    fn from(r: Refusal) -> u32 {
+        match r {
+            Refusal::NotSound => 1,
+            Refusal::NoSuchGuest => 2,
+            Refusal::GuestIdle => 3,
+            Refusal::JobsFull => 4,
+            Refusal::NoRoom => 5,
+            Refusal::DeadlineTooFar => 6,
+            Refusal::EndOfTime => 7,
+            Refusal::ImageLength => 8,
+            Refusal::UnknownEdition => 9,
+            Refusal::GuestCount => 10,
+            Refusal::WrongOffset => 11,
+            Refusal::FrameRange => 12,
+            Refusal::BadGuest => 13,
+            Refusal::ShareTooLarge => 14,
+            Refusal::BufferShort => 15,
+            Refusal::Malformed => 16,
+        }
+    }
 }
 
 // Whose capacity a running guest uses: its own, or the spare that this guest left.
@@ -131,12 +146,6 @@ pub enum Portion {
     Nothing,
 }
 
-#[derive(Clone, Copy)]
-pub struct Asked {
-    pub answer: Answer,
-    pub next: Portion,
-}
-
 // A portion of an advance as the listing shows it: its first tick, the tick it ends at, and what it used.
 #[derive(Clone, Copy)]
 pub struct Line {
@@ -149,7 +158,6 @@ pub struct Line {
 // left to walk.
 #[derive(Clone, Copy)]
 pub struct Walk {
-    pub answer: Answer,
     pub state: State,
     pub left: u64,
     pub shown: usize,
@@ -159,20 +167,6 @@ pub struct Walk {
 // Bit i of the mask stands for guest i; `actives` is the number of its ones.
 #[derive(Clone, Copy)]
 pub struct Activity {
-    pub answer: Answer,
     pub mask: u32,
     pub actives: u32,
-}
-
-#[derive(Clone, Copy)]
-pub struct Margin {
-    pub answer: Answer,
-    pub ticks: i64,
-}
-
-// What reading an image gives.
-#[derive(Clone, Copy)]
-pub struct Loaded {
-    pub answer: Answer,
-    pub table: Table,
 }
