@@ -10,25 +10,26 @@ use lib.Dec.{eqb}
 use lib.ListN.{length, take, drop, set}
 use borrow.Author.Tests.{eq-eqb, ne_eqb}
 use lib.Seq.{drop-drop}
+use Rattle.std.specs.Prelude.{Result, Ok, Err}
+use Rattle.std.specs.Result.{is_ok, IsErrAnd}
 use Rattle.laws.specs.Lists.{padded}
 use Rattle.laws.proofs.Places.{set_padded}
 use Rattle.rules.specs.declared.Entry.{Entry}
-use Rattle.rules.specs.declared.Answer.{Answer}
-use Rattle.rules.specs.declared.Answer.TheVariants.{Went}
-use Rattle.rules.specs.declared.Loaded.{Loaded}
+use Rattle.rules.specs.declared.Table.{Table}
+use Rattle.rules.specs.declared.Refusal.{Refusal}
 use Rattle.rules.specs.Limits.{guest_places, shortest_image, longest_image}
-use Rattle.rules.specs.Refusals.{Row, ◌gives◌, first, outside, number_of}
+use Rattle.rules.specs.Refusals.{Row, ◌gives◌, first, outside, number_of, refusal_number}
 use Rattle.rules.specs.Table.{no_entry, no_table, count_row, range_rows, table_rows}
 use Rattle.rules.specs.Image.{entry_bytes, trailer_bytes, field, trailer_at, frame_in, offset_in, count_in, edition_in, entry_in, entries_in, entries_part, table_in, read_rows}
-use Rattle.rules.specs.Calls.{kept, TableRead, EntriesHanded}
+use Rattle.rules.specs.Calls.{kept, TableChecked, TableRead, EntriesHanded}
 use Rattle.promises.proofs.Refusing.{given_here, given-later}
 use Rattle.promises.proofs.GoodTable.{not-outside}
 use Rattle.promises.proofs.Images.{entries_in_long, readable}
-use Rattle.promises.proofs.Outcomes.{one_outcome}
+use Rattle.promises.proofs.Outcomes.{refusal_counts, kept_back, one_outcome}
 use Rattle.image_reader.specs.declared.Trailer.{Trailer}
 use Rattle.image_reader.specs.Clauses.{number_at, behind_of, TrailerRead}
 use Rattle.image_loading.specs.Clauses.{EntriesPart}
-use Rattle.image_loading.specs.Inner.{Whole, Tested}
+use Rattle.image_loading.specs.Inner.{Whole}
 use Rattle.image_reader.proofs.Laws.{number_in, behind_in}
 
 -- two numbers side by side are an entry
@@ -110,12 +111,21 @@ module _ (image : List ℕ) where
 -- ---- what a reading gives back
 
 -- a refused one
-pub refused_read : (image : List ℕ) (n : ℕ) (l : Loaded) → suc n ≡ first (read_rows image) → number_of l.answer ≡ suc n → l.table ≡ no_table → TableRead image l
-refused_read image n l e a t = record { answer = a ∙ e; table = t ∙ ap (λ (k : ℕ). kept k (table_in image) no_table) e }
+pub refused_read : (image : List ℕ) (n : ℕ) (r : Refusal) → suc n ≡ first (read_rows image) → refusal_number r ≡ suc n → TableRead image (Err r)
+refused_read image n r e a = record { answer = a ∙ e; table = ap (λ (k : ℕ). kept k (table_in image) no_table) e }
 
 -- one that the table's own check decides
-pub tested_read : (image : List ℕ) (l : Loaded) → first (table_rows (table_in image)) ≡ first (read_rows image) → Tested (table_in image) l → TableRead image l
-tested_read image l e t = record { answer = t.answer ∙ e; table = t.table_kept ∙ ap (λ (k : ℕ). kept k (table_in image) no_table) e }
+module _ (image : List ℕ) (e : first (table_rows (table_in image)) ≡ first (read_rows image)) {table : Table} (t : table ≡ table_in image) where
+  pub tested_bad : {r : Refusal} → TableChecked table (Err r) → (b : Result Table Refusal) → IsErrAnd b (λ x. x ≡ r) → TableRead image b
+  tested_bad c (Ok x) h = absurd h
+  tested_bad {r} c (Err x) h =
+      let number : refusal_number x ≡ first (read_rows image) = ap refusal_number h ∙ c.answer ∙ ap (λ (t : Table). first (table_rows t)) t ∙ e in
+      record { answer = number; table = sym (kept_back (first (read_rows image)) (table_in image) no_table (omega (arith, number, refusal_counts x))) }
+
+  pub tested_good : TableChecked table (Ok tt) → TableRead image (Ok table)
+  tested_good c =
+      let none : 0 ≡ first (read_rows image) = c.answer ∙ ap (λ (t : Table). first (table_rows t)) t ∙ e in
+      record { answer = none; table = t ∙ ap (λ (k : ℕ). kept k (table_in image) no_table) none }
 
 -- ---- the trailer's numbers, of an image that is long enough
 
@@ -153,9 +163,10 @@ table_whole image t w entries e =
 
 -- ---- the entries that are handed on
 
--- the number of an answer that went, or did not
-pub went_number : {n : ℕ} (a : Answer) → number_of a ≡ n → a ≡ Went → n ≡ 0
-went_number a e h = sym e ∙ ap number_of h
+-- an answer that is none went
+pub went : {A : Type 0} (r : Result A Refusal) {n : ℕ} → number_of r ≡ n → is_ok r ≡ true → n ≡ 0
+went (Ok x) e h = sym e
+went (Err r) e h = cc
 
 pub went_hands : (image : List ℕ) (t : Trailer) → first (read_rows image) ≡ 0 → Numbers image t → EntriesHanded image t.offset (take (length image - 12 - t.offset) (drop t.offset image))
 went_hands image t e n =

@@ -3,8 +3,7 @@
 
 ghost use Rattle.image_reader.specs.Clauses.{NumberRead, EntryRead, TrailerRead};
 
-use crate::bytes::half_at;
-use crate::reader::{half, open, past, trailer_place, word};
+use crate::reader::{Reader, trailer_place};
 
 mod bytes;
 mod reader;
@@ -25,38 +24,29 @@ pub struct Pair {
     pub period: usize,
 }
 
-// The number in 4 bytes at a place, or 0 where they run past the end.
+// The number in 4 bytes at a place, or 0 where they run past the end, as the contract says. A pattern has a fixed length, so this and `half_at` are two functions.
 pub fn word_at(bytes: &[u8], at: usize) -> usize
     ensures { NumberRead 4 bytes.now at result }
 {
-    if bytes.len() < 4 {
+    let &[a, b, c, d, ..] = &bytes[at.min(bytes.len())..] else {
         return 0;
-    }
-    if bytes.len() - 4 < at {
-        return 0;
-    }
-    let low = half_at(bytes, at);
-    let high = half_at(bytes, at + 2);
-    low + 65536 * high
+    };
+    u32::from_le_bytes([a, b, c, d]) as usize
 }
 
 // The trailer's numbers, read one behind the other: the plain function that serves every caller.
 pub fn read_trailer(image: &[u8]) -> Trailer
     ensures { TrailerRead image.now result }
 {
-    let first = open(image, trailer_place(image));
-    let frame = word(first);
-    let second = past(first, 4);
-    let offset = word(second);
-    let third = past(second, 4);
-    let count = half(third);
-    let fourth = past(third, 2);
-    let edition = half(fourth);
+    let mut reader = Reader {
+        image,
+        at: trailer_place(image),
+    };
     Trailer {
-        frame,
-        offset,
-        count,
-        edition,
+        frame: reader.word(),
+        offset: reader.word(),
+        count: reader.half(),
+        edition: reader.half(),
     }
 }
 
@@ -64,9 +54,9 @@ pub fn read_trailer(image: &[u8]) -> Trailer
 pub fn read_entry(part: &[u8], at: usize) -> Pair
     ensures { EntryRead part.now at result }
 {
-    let first = open(part, at);
-    let budget = word(first);
-    let next = past(first, 4);
-    let period = word(next);
-    Pair { budget, period }
+    let mut reader = Reader { image: part, at };
+    Pair {
+        budget: reader.word(),
+        period: reader.word(),
+    }
 }

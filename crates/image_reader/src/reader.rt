@@ -9,11 +9,8 @@ use crate::word_at;
 // What the trailer takes of the image's end.
 const TRAILER_BYTES: usize = 12;
 
-// The largest number that a place can be: a reader never moves behind it.
-const LAST_PLACE: usize = 18446744073709551615;
-
-// An image and the place that is read next. The functions over it only take it apart: the work is done on the slice and the number.
-#[derive(Clone, Copy)]
+// An image and the place that is read next, which stays at the largest number that a place can be.
+#[derive(Drop)]
 pub struct Reader<'a> {
     pub image: &'a [u8],
     pub at: usize,
@@ -23,50 +20,37 @@ pub struct Reader<'a> {
 pub(crate) fn trailer_place(image: &[u8]) -> usize
     ensures { (result ≡ trailer_at image.now) × (result + 12 < 2 ^ 64) }
 {
-    if image.len() < TRAILER_BYTES {
-        return 0;
+    image.len().saturating_sub(TRAILER_BYTES)
+}
+
+impl<'a> Reader<'a> {
+    // The number in the 4 bytes at the reader's place, which moves behind them.
+    pub(crate) fn word(&mut self) -> usize
+        ensures number { NumberRead 4 self.old.image.now self.old.at result }
+        ensures image { self.new.image ≡ self.old.image }
+        ensures place { self.new.at ≡ behind_of self.old.at 4 }
+    {
+        let number = word_at(self.image, self.at);
+        self.pass(4);
+        number
     }
-    image.len() - TRAILER_BYTES
-}
 
-// The place behind `width` bytes. It never wraps, so that nobody who moves a reader owes a proof.
-fn behind(at: usize, width: usize) -> usize
-    ensures { result ≡ behind_of at width }
-{
-    if LAST_PLACE - width < at {
-        return LAST_PLACE;
+    // The number in the 2 bytes at the reader's place, which moves behind them.
+    pub(crate) fn half(&mut self) -> usize
+        ensures number { NumberRead 2 self.old.image.now self.old.at result }
+        ensures image { self.new.image ≡ self.old.image }
+        ensures place { self.new.at ≡ behind_of self.old.at 2 }
+    {
+        let number = half_at(self.image, self.at);
+        self.pass(2);
+        number
     }
-    at + width
-}
 
-// A reader of an image from a place on.
-pub(crate) fn open<'a>(image: &'a [u8], at: usize) -> Reader<'a>
-    ensures { (result.image ≡ image.entry) × (result.at ≡ at) }
-{
-    Reader { image, at }
-}
-
-// The number in the 4 bytes at the reader's place.
-pub(crate) fn word<'a>(reader: Reader<'a>) -> usize
-    ensures { NumberRead 4 reader.entry.image.now reader.entry.at result }
-{
-    word_at(reader.image, reader.at)
-}
-
-// The number in the 2 bytes at the reader's place.
-pub(crate) fn half<'a>(reader: Reader<'a>) -> usize
-    ensures { NumberRead 2 reader.entry.image.now reader.entry.at result }
-{
-    half_at(reader.image, reader.at)
-}
-
-// The reader behind `width` bytes.
-pub(crate) fn past<'a>(reader: Reader<'a>, width: usize) -> Reader<'a>
-    ensures { (result.image ≡ reader.entry.image) × (result.at ≡ behind_of reader.entry.at width) }
-{
-    let at = behind(reader.at, width);
-    Reader {
-        image: reader.image,
-        at,
+    // Behind `width` bytes. The place never wraps, so that nobody who moves a reader owes a proof.
+    fn pass(&mut self, width: usize)
+        ensures image { self.new.image ≡ self.old.image }
+        ensures place { self.new.at ≡ behind_of self.old.at width }
+    {
+        self.at = self.at.saturating_add(width);
     }
 }

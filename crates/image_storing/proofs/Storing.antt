@@ -1,27 +1,62 @@
 -- What is stored one entry after the other, and what writing answers.
 use mathlib.Core.Path.{◌≡◌, refl, sym, ap, ◌∙◌}
 use mathlib.Core.List.{List, [], ◌∷◌, ◌++◌, append_assoc}
-use Prim.Native.Nat.{ℕ, ◌+◌, ◌*◌, ◌≤◌, ◌<◌}
+use Prim.Native.Nat.{ℕ, zero, suc, ◌+◌, ◌*◌, ◌/◌, ◌%◌, ◌^◌, ◌≤◌, ◌<◌}
 use native.Mathlib.Numerals.{add-one}
 use native.Mathlib.Omega.{arith}
 use lib.Dec.{ltb}
 use lib.ListN.{length, get_or, take}
 use lib.Seq.{take-suc, length-take-le, sets}
 use borrow.Author.Tests.{le-ltb}
+use borrow.Rule.Slice.PartMut.{put_mid}
+use Rattle.std.specs.Prelude.{Ok}
+use Rattle.std.specs.Int.{w64, byte_at, bytes_low_first, to_le_bytes}
+use Rattle.std.proofs.Math.Nat.{div-div-eq-div-mul, pow-suc}
+use Rattle.std.proofs.lemmas.List.{take_all}
+use Rattle.std.proofs.lemmas.List.Edits.{sets-eq}
+use Rattle.std.proofs.lemmas.Slice.{put_mid-paste}
 use Rattle.laws.proofs.Parts.{stored_on, stored_front}
 use Rattle.rules.specs.declared.Entry.{Entry}
 use Rattle.rules.specs.declared.Table.{Table}
-use Rattle.rules.specs.declared.Refusal.{Refusal}
-use Rattle.rules.specs.declared.Answer.{Answer}
-use Rattle.rules.specs.declared.Answer.TheVariants.{Went, Refused}
-use Rattle.rules.specs.Refusals.{Row, ◌gives◌, first, number_of}
+use Rattle.rules.specs.Refusals.{Row, ◌gives◌, first}
 use Rattle.rules.specs.Table.{no_entry, entries_of, table_rows}
-use Rattle.rules.specs.Image.{entry_image, entries_image, trailer_image, image_of, image_length, write_rows, overwritten}
+use Rattle.rules.specs.Image.{entry_image, entries_image, trailer_image, image_of, image_length, write_rows, bytes_of}
 use Rattle.rules.specs.Calls.{TableWritten}
-use Rattle.promises.proofs.Refusing.{clear, first_stays, first-behind}
+use Rattle.promises.proofs.Refusing.{clear, first-behind}
 use Rattle.promises.proofs.GoodTable.{good}
-use Rattle.promises.proofs.Outcomes.{refusal_counts, kept_back}
 use Rattle.promises.proofs.Images.{entries_image_long, part_long, image_long}
+
+-- ---- a number's bytes
+
+bytes_long : (width x : ℕ) → length (bytes_of width x) ≡ width
+bytes_long zero x = refl
+bytes_long (suc width) x = ap suc (bytes_long width (x / 256))
+
+bytes_front : (width more x : ℕ) → width ≤ more → take width (bytes_of more x) ≡ bytes_of width x
+bytes_front zero more x h = refl
+bytes_front (suc width) zero x h = absurd (omega arith)
+bytes_front (suc width) (suc more) x h = ap {B = List ℕ} (λ r. x % 256 ∷ r) (bytes_front width more (x / 256) (omega arith))
+
+-- the library's bytes of a number are the rules'
+byte_at_lem : (i x : ℕ) → byte_at i x ≡ x / 256 ^ i % 256
+byte_at_lem zero x = omega arith
+byte_at_lem (suc i) x = refl
+
+low_first : (i width x : ℕ) → bytes_low_first i width x ≡ bytes_of width (x / 256 ^ i)
+low_first i zero x = refl
+low_first i (suc width) x =
+    let next : x / 256 ^ suc i ≡ x / 256 ^ i / 256 = ap (λ (n : ℕ). x / n) (pow-suc 256 i) ∙ sym (div-div-eq-div-mul x (256 ^ i) 256) in
+    rw (byte_at_lem i x, low_first (suc i) width x, next) refl
+
+-- a part of the buffer that a number's bytes were copied to
+pub stored_number : (before : List ℕ) (at k width x : ℕ) {part : List ℕ} → width ≤ 8 → at + width ≤ length before → k ≡ width → part ≡ take width (to_le_bytes w64 x)
+    → put_mid at k before part ≡ sets before at (bytes_of width x)
+stored_number before at k width x h l n e =
+    let whole : x / 256 ^ 0 ≡ x = omega arith in
+    let same = e ∙ ap (take width) (low_first 0 8 x ∙ ap (bytes_of 8) whole) ∙ bytes_front width 8 x h in
+    let long = bytes_long width x in
+    put_mid-paste at k before _ (bytes_of width x) width same (sym n) (sym long)
+    ∙ rw (take_all width (bytes_of width x) (omega arith), sets-eq (bytes_of width x) before at (omega arith), long) refl
 
 -- ---- entries, one after the other
 
@@ -37,6 +72,9 @@ entries_more es i h = rw (add-one i, take-suc es i no_entry h, entries_append (t
 pub record Stored (es : List Entry) (before : List ℕ) (i : ℕ) (after : List ℕ) : Type 0 where
   pub so : after ≡ sets before 0 (entries_image (take i es))
 
+pub stored_all : {es : List Entry} {before : List ℕ} {i : ℕ} {after : List ℕ} → Stored es before i after → length es ≤ i → after ≡ sets before 0 (entries_image es)
+stored_all {es} {before} {i} s h = s.so ∙ ap (λ (fs : List Entry). sets before 0 (entries_image fs)) (take_all i es h)
+
 module _ (es : List Entry) (before : List ℕ) (i : ℕ) {after : List ℕ} (s : Stored es before i after) where
   pub stored_more : {next : List ℕ} → i < length es → next ≡ sets after (8 * i) (entry_image (get_or es i no_entry)) → Stored es before (i + 1) next
   stored_more h e =
@@ -51,13 +89,6 @@ abbrev length_row : Table → List ℕ → Row
 length_row t buffer = ltb (length buffer) (image_length t) gives 15
 
 module _ (t : Table) (buffer : List ℕ) where
-  -- the check's own answer is the answer where it is a refusal
-  pub table-refused : {a : Answer} {r : Refusal} → a ≡ Refused r → number_of a ≡ first (table_rows t) → TableWritten t buffer a buffer
-  table-refused {r = r} e h =
-      let some : 0 < first (table_rows t) = omega (arith, h, ap number_of e, refusal_counts r) in
-      let same = first_stays (table_rows t) (length_row t buffer ∷ []) some in
-      record { answer = h ∙ sym same; content = rw same (sym (kept_back (first (table_rows t)) (overwritten t buffer) buffer some)) }
-
   module _ (none : first (table_rows t) ≡ 0) where
     -- only the buffer's length is left to refuse
     by_length : first (write_rows t buffer) ≡ first (length_row t buffer ∷ [])
@@ -65,7 +96,7 @@ module _ (t : Table) (buffer : List ℕ) where
 
     -- the entries and a trailer behind them are the table's image
     pub written : {entries after : List ℕ} → image_length t ≤ length buffer → entries ≡ sets buffer 0 (entries_image (entries_of t))
-        → after ≡ sets entries (8 * t.count) (trailer_image t.frame t.count) → TableWritten t buffer Went after
+        → after ≡ sets entries (8 * t.count) (trailer_image t.frame t.count) → TableWritten t buffer (Ok tt) after
     unfolding image_of
     written h e₁ e₂ =
         let g = good t none in

@@ -4,4 +4,4 @@ use Rattle.image_loading.proofs.Reading.{filled_more}
 use Rattle.image_loading.proofs.entries_of.Goals as goal
 
 pub loop-i-preserved : goal.loop-i-preserved
-loop-i-preserved c = record { in_range = omega arith; filled = filled_more c.loop-i.invariant.filled _ c.entry_at-e.ensures (omega arith) }
+loop-i-preserved c = filled_more c.loop-i.invariant _ c.entry_at.ensures (omega arith)

@@ -8,12 +8,12 @@ use Rattle.image_reader.proofs.read_trailer.Goals as goal
 pub returns : goal.returns
 returns c =
     let at = c.trailer_place.result in
-    let second : c.past-second.result.at ≡ at + 4 = omega (arith, behind_in c.open-first.result.at 4 (omega arith)) in
-    let third : c.past-third.result.at ≡ at + 8 = omega (arith, behind_in c.past-second.result.at 4 (omega arith)) in
-    let fourth : c.past-fourth.result.at ≡ at + 10 = omega (arith, behind_in c.past-third.result.at 2 (omega arith)) in
+    let second : c.word.new.self.at ≡ at + 4 = omega (arith, behind_in at 4 (omega arith)) in
+    let third : c.word-2.new.self.at ≡ at + 8 = omega (arith, behind_in c.word.new.self.at 4 (omega arith)) in
+    let fourth : c.half.new.self.at ≡ at + 10 = omega (arith, behind_in c.word-2.new.self.at 2 (omega arith)) in
     record {
-      frame = read_there 4 (cc) (omega arith) c.word-frame.ensures;
-      offset = read_there 4 (cc) (omega arith) c.word-offset.ensures;
-      count = read_there 2 (cc) (omega arith) c.half-count.ensures;
-      edition = read_there 2 (cc) (omega arith) c.half-edition.ensures;
+      frame = read_there 4 (cc) (omega arith) c.word.ensures.number;
+      offset = read_there 4 (cc) (omega arith) c.word-2.ensures.number;
+      count = read_there 2 (cc) (omega arith) c.half.ensures.number;
+      edition = read_there 2 (cc) (omega arith) c.half-2.ensures.number;
     }

@@ -1,13 +1,11 @@
--- `image_reader::word_at`: two numbers of 2 bytes that stand whole are one of 4, and a number that runs past the end reads as 0.
+-- `image_reader::word_at`: four bytes that stand whole are a number of 4, and a number that runs past the end reads as 0.
+use mathlib.Core.Path.{◌∙◌}
 use native.Mathlib.Omega.{arith}
-use Rattle.image_reader.proofs.Laws.{number_out, word_whole}
+use Rattle.image_reader.proofs.Laws.{word_whole, rest_short}
 use Rattle.image_reader.proofs.word_at.Goals as goal
 
-pub returns-then-bytes-lt4 : goal.returns-then-bytes-lt4
-returns-then-bytes-lt4 c = (number_out _ 4 _ (omega arith), omega arith)
-
-pub returns-then-bytes-at : goal.returns-then-bytes-at
-returns-then-bytes-at c = (number_out _ 4 _ (omega arith), omega arith)
+pub returns-in_default : goal.returns-in_default
+returns-in_default c = (rest_short c.args.bytes.now c.args.at c.min.result c.min.ensures 4 c.in_default.len_below, omega arith)
 
 pub returns : goal.returns
-returns c = (word_whole _ _ _ _ (omega arith) c.half_at-low.ensures.0 c.half_at-high.ensures.0, omega arith)
+returns c = (c.from_le_bytes.ensures ∙ word_whole c.args.bytes.now c.args.at c.min.result c.min.ensures c.in-len4-up.len_at_least, omega arith)
