@@ -1,15 +1,13 @@
 -- One portion: what comes next and what is charged, as the code has them and as the rules say.
 use mathlib.Core.Path.{◌≡◌, refl, sym}
-use mathlib.Core.Bool.{true, cond}
+use mathlib.Core.Bool.{cond}
 use mathlib.Core.List.{List, [], ◌∷◌}
 use Prim.Native.Nat.{ℕ, zero, suc, ◌+◌, ◌-◌, ◌≤◌, ◌<◌, min}
 use native.Mathlib.Nat.{add-zero, sub-zero}
 use native.Mathlib.Omega.{arith}
 use lib.ListN.{length, drop}
-use borrow.Author.Tests.{le-leb, lt-leb}
 use Rattle.laws.specs.Lists.{changed}
 use Rattle.laws.proofs.Cases.{by_leb}
-use Rattle.rules.specs.declared.Spare.{Spare as SparePlace}
 use Rattle.rules.specs.declared.Source.TheVariants.{Own, SpareOf}
 use Rattle.rules.specs.declared.Portion.{Portion as DeclaredPortion}
 use Rattle.rules.specs.declared.Portion.TheVariants.{Run, Burn, Nothing}
@@ -17,20 +15,11 @@ use Rattle.rules.specs.Calls.{portion_of}
 use Rattle.rules.specs.Lines.{ticks_on}
 use Rattle.rules.specs.Model.{Guest, guest, Spare, spare, Model, current_of, capacity_of, guest_at, spare_at}
 use Rattle.promises.specs.Promises.{FirstSpareIs, Uses}
-use Rattle.rules.specs.Steps.{picked, own_budget, spare_of, runs, limited, Portion, portion, use_of, span_of, portion_for, spend, ran, later, charge}
+use Rattle.rules.specs.Steps.{limited, Portion, use_of, span_of, spend, ran, later, charge}
 use Rattle.promises.specs.Spans.{Within}
 use Rattle.promises.proofs.Spans.{limited_same}
 use Rattle.engine_choice.specs.declared.Charge.{Charge}
-use Rattle.engine_choice.specs.Clauses.{first_of, removed_by, charge_of}
-
--- ---- what comes next
-
-module _ (i d c : ℕ) (x : SparePlace) where
-  pub spare_first : x.deadline ≤ d → portion (runs i (spare_of x.owner)) x.deadline (limited x.capacity) ≡ portion_for (picked i d c) (first_of true x)
-  spare_first h = rw (le-leb x.deadline d h)
-
-  pub spare_later : d < x.deadline → portion (runs i own_budget) d (limited c) ≡ portion_for (picked i d c) (first_of true x)
-  spare_later h = rw (lt-leb x.deadline d h)
+use Rattle.engine_choice.specs.Clauses.{removed_by, charge_of}
 
 -- ---- the charge of a portion that is next
 

@@ -72,9 +72,6 @@ mask_behind (x ∷ gs) g =
 pub record Masked (gs : List GuestPlace) (i mask : ℕ) : Type 0 where
   pub so : mask ≡ mask_of (in_use i gs)
 
-pub masked_start : (gs : List GuestPlace) → Masked gs 0 0
-masked_start gs = record { so = refl }
-
 module _ {gs : List GuestPlace} {i mask : ℕ} (m : Masked gs i mask) where
   below : i ≤ length gs → mask < 2 ^ i
   below h = rw (m.so, ← (ap (λ (k : ℕ). 2 ^ k) (length_in_use i gs h))) (mask_small (in_use i gs))
@@ -91,6 +88,7 @@ module _ {gs : List GuestPlace} {i mask : ℕ} (m : Masked gs i mask) where
         so = rw (mod-eq_of_lt fits, or_shifted_r bit i mask (below (omega arith)), longer, mask_behind, length_in_use i gs (omega arith), e, m.so);
       }
 
-  pub masked_end : (n places : ℕ) → i ≡ n → n ≤ places → n ≤ length gs → (mask ≡ mask_of (in_use n gs)) × (mask < 2 ^ places)
-  masked_end n places e h k =
-      (m.so ∙ ap (λ (j : ℕ). mask_of (in_use j gs)) e, omega (arith, below (omega arith), pow_mono {i = i} {j = places} (omega arith)))
+  -- all of them; no mask has a bit past its places
+  pub masked_end : (places : ℕ) → i ≡ length gs → length gs ≤ places → (mask ≡ mask_of (map shown gs)) × (mask < 2 ^ places)
+  masked_end places e h =
+      (m.so ∙ ap (λ (xs : List GuestPlace). mask_of (map shown xs)) (take_all i gs (omega arith)), omega (arith, below (omega arith), pow_mono {i = i} {j = places} (omega arith)))

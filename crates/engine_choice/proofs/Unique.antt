@@ -2,22 +2,22 @@
 use mathlib.Core.Path.{◌≡◌, refl, sym, ap, ◌∙◌}
 use Rattle.rules.specs.Steps.{Pick, nobody, picked}
 use Rattle.engine_choice.specs.declared.Pick.{Pick as DeclaredPick}
-use Rattle.engine_choice.specs.declared.Pick.TheVariants.{Nobody, Picked}
+use Rattle.std.specs.Prelude.{Option, Some, None}
 use Rattle.engine_choice.specs.Choice.{pick_of}
 use Rattle.engine_choice.specs.Clauses.{OneAnswer}
 use Rattle.promises.proofs.Outcomes.{answers_determined}
 
 -- the code's pick for the rules' one
-back : Pick → DeclaredPick
-back nobody = Nobody
-back (picked i d c) = Picked i d c
+back : Pick → Option DeclaredPick
+back nobody = None
+back (picked i d c) = Some (record { guest = i; deadline = d; current = c })
 
-back_pick : (r : DeclaredPick) → back (pick_of r) ≡ r
+back_pick : (r : Option DeclaredPick) → back (pick_of r) ≡ r
 unfolding pick_of back
-back_pick Nobody = refl
-back_pick (Picked i d c) = refl
+back_pick None = refl
+back_pick (Some p) = refl
 
-same_pick : (a b : DeclaredPick) → pick_of a ≡ pick_of b → a ≡ b
+same_pick : (a b : Option DeclaredPick) → pick_of a ≡ pick_of b → a ≡ b
 same_pick a b e = sym (back_pick a) ∙ ap back e ∙ back_pick b
 
 pub one_answer : OneAnswer
@@ -28,6 +28,6 @@ one_answer =
       ones = λ mask a b p q. p ∙ sym q;
       lowest = λ guests count a b p q. p ∙ sym q;
       ready = λ i g a b p q. same_pick a b (p ∙ sym q);
-      portion = λ pick first any a b p q. answers_determined.portion a b (p ∙ sym q);
+      portion = λ pick first a b p q. answers_determined.portion a b (p ∙ sym q);
       charge = λ portion left last a b p q. p ∙ sym q;
     }

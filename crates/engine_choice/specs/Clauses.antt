@@ -1,5 +1,5 @@
 -- What the crate's functions answer, for every list and every number, and that each answer is settled.
-use Rattle.std.specs.Prelude.{◌≡◌, Bool, cond, List, [], ◌∷◌, ℕ, ◌^◌, ◌<◌, min, leb}
+use Rattle.std.specs.Prelude.{◌≡◌, Bool, cond, List, [], ◌∷◌, ℕ, ◌^◌, ◌<◌, min, leb, Option, Some, None}
 use Rattle.std.specs.Int.Count.{ones, count_trailing_zeros}
 use Rattle.rules.specs.declared.Guest.{Guest as GuestPlace}
 use Rattle.rules.specs.declared.Spare.{Spare as SparePlace}
@@ -33,12 +33,13 @@ abbrev pub LowestTold : List GuestPlace → ℕ → ℕ → Type 0
 LowestTold guests count r = r ≡ count_trailing_zeros 32 (mask_of (in_use count guests))
 
 -- guest i as it may be picked
-abbrev pub ReadyTold : ℕ → GuestPlace → DeclaredPick → Type 0
+abbrev pub ReadyTold : ℕ → GuestPlace → Option DeclaredPick → Type 0
 ReadyTold i g r = pick_of r ≡ ready i (shown g)
 
 -- the first spare, if there is any
-abbrev pub first_of : Bool → SparePlace → List Spare
-first_of any x = cond any (spare_of x ∷ []) []
+abbrev pub first_of : Option SparePlace → List Spare
+first_of None = []
+first_of (Some x) = spare_of x ∷ []
 
 -- "a spare at 0 is removed"
 abbrev pub removed_by : ℕ → ℕ → ℕ
@@ -61,8 +62,8 @@ charge_of left last (Burn owner d span) =
 charge_of left last Nothing = record { ticks = left; guest = last; own = 0; borrowed = 0; spent = 0; removed = 0; burned = 0; empty = left }
 
 -- steps 3 and 4 of a tick: what the picked guest and the first spare, if there is any, make the next tick use
-abbrev pub PortionTold : DeclaredPick → SparePlace → Bool → DeclaredPortion → Type 0
-PortionTold pick first any r = portion_of r ≡ portion_for (pick_of pick) (first_of any first)
+abbrev pub PortionTold : Option DeclaredPick → Option SparePlace → DeclaredPortion → Type 0
+PortionTold pick first r = portion_of r ≡ portion_for (pick_of pick) (first_of first)
 
 -- step 5, "The matching tally gains 1", for as many of the ticks left as stay on the portion
 abbrev pub ChargeTold : DeclaredPortion → ℕ → ℕ → Charge → Type 0
@@ -74,6 +75,6 @@ pub record OneAnswer : Type 0 where
   pub mask : (guests : List GuestPlace) (count a b : ℕ) → MaskTold guests count a → MaskTold guests count b → a ≡ b
   pub ones : (mask a b : ℕ) → OnesTold mask a → OnesTold mask b → a ≡ b
   pub lowest : (guests : List GuestPlace) (count a b : ℕ) → LowestTold guests count a → LowestTold guests count b → a ≡ b
-  pub ready : (i : ℕ) (g : GuestPlace) (a b : DeclaredPick) → ReadyTold i g a → ReadyTold i g b → a ≡ b
-  pub portion : (pick : DeclaredPick) (first : SparePlace) (any : Bool) (a b : DeclaredPortion) → PortionTold pick first any a → PortionTold pick first any b → a ≡ b
+  pub ready : (i : ℕ) (g : GuestPlace) (a b : Option DeclaredPick) → ReadyTold i g a → ReadyTold i g b → a ≡ b
+  pub portion : (pick : Option DeclaredPick) (first : Option SparePlace) (a b : DeclaredPortion) → PortionTold pick first a → PortionTold pick first b → a ≡ b
   pub charge : (portion : DeclaredPortion) (left last : ℕ) (a b : Charge) → ChargeTold portion left last a → ChargeTold portion left last b → a ≡ b

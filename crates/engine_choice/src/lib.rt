@@ -3,7 +3,6 @@
 #![tactic(auto)]
 
 ghost use Rattle.std.specs.Prelude.{◌≡◌, min};
-ghost use Rattle.rules.specs.Limits.{guest_places};
 ghost use Rattle.rules.specs.Model.{bit_of};
 ghost use Rattle.engine_choice.specs.Choice.{shown};
 ghost use Rattle.engine_choice.specs.Clauses.{OrderTold, MaskTold, OnesTold, LowestTold, ReadyTold, removed_by, blank, run_charge, PortionTold, ChargeTold};
@@ -12,52 +11,32 @@ use rules::{GUEST_PLACES, Guest, Portion, Source, Spare};
 
 // Who is picked to run: a guest's number, its deadline and its current budget.
 #[derive(Clone, Copy)]
-pub enum Pick {
-    Nobody,
-    Picked(usize, u64, u64),
+pub struct Pick {
+    pub guest: usize,
+    pub deadline: u64,
+    pub current: u64,
 }
 
 // By deadline, then by owner.
 pub fn comes_before(x: Spare, y: Spare) -> bool
     ensures { OrderTold x y result }
 {
-    let sooner = x.deadline < y.deadline;
-    let equal = x.deadline == y.deadline;
-    let lower = x.owner < y.owner;
-    sooner | (equal & lower)
-}
-
-// Whatever the count is, no more guests are looked at than there are places.
-fn places_in_use(count: usize) -> usize
-    ensures { result ≡ min count guest_places }
-{
-    if count < GUEST_PLACES {
-        return count;
-    }
-    GUEST_PLACES
+    (x.deadline, x.owner) < (y.deadline, y.owner)
 }
 
 fn bit_of(g: Guest) -> u32
     ensures { result ≡ bit_of (shown g) }
 {
-    if g.jobs == 0 {
-        return 0;
-    }
-    1
+    u32::from(g.jobs != 0)
 }
 
-// Bit i for guest i.
-pub fn mask_of(guests: [Guest; GUEST_PLACES], count: usize) -> u32
-    ensures { MaskTold guests count result }
+// Bit i for guest i. Whatever the count is, no more guests are looked at than there are places.
+pub fn mask_of(guests: &[Guest; GUEST_PLACES], count: usize) -> u32
+    ensures { MaskTold guests.now count result }
 {
-    let places = places_in_use(count);
-    let mut mask: u32 = 0;
-    let mut i: usize = 0;
-    while i < places {
-        let g = guests[i];
-        let bit = bit_of(g);
-        mask = mask | (bit << i);
-        i = i + 1;
+    let mut mask = 0;
+    for (i, g) in guests[..count.min(GUEST_PLACES)].iter().enumerate() {
+        mask |= bit_of(*g) << i;
     }
     mask
 }
@@ -70,26 +49,31 @@ pub fn ones_of(mask: u32) -> u32
 }
 
 // Guest i, where it is active.
-pub fn ready(i: usize, g: Guest) -> Pick
+#[tactic(auto, unfolding(crate::specs::Choice::pick_of))]
+pub fn ready(i: usize, g: Guest) -> Option<Pick>
     ensures { ReadyTold i g result }
 {
     if g.jobs == 0 {
-        return Pick::Nobody;
+        return None;
     }
-    Pick::Picked(i, g.deadline, g.current)
+    Some(Pick {
+        guest: i,
+        deadline: g.deadline,
+        current: g.current,
+    })
 }
 
-// The lowest active guest. An empty mask has 32 zeros at its end, more than there are guests.
+// The lowest active guest. An empty mask has 32 zeros at its end, more than there are guests; the contract says that number, so this gives no Option.
 pub fn lowest(guests: [Guest; GUEST_PLACES], count: usize) -> usize
     ensures { LowestTold guests count result }
 {
-    let mask = mask_of(guests, count);
+    let mask = mask_of(&guests, count);
     u32::trailing_zeros(mask) as usize
 }
 
 // What is charged: so many ticks, to a guest's own budget and tallies, to the first spare, and to the processor's tallies. `removed` is 1
-// where the first spare is spent, and else 0.
-#[derive(Clone, Copy)]
+// where the first spare is spent, and else 0: it is added to what is spent, so it is no flag.
+#[derive(Clone, Copy, Default)]
 pub struct Charge {
     pub ticks: u64,
     pub guest: usize,
@@ -101,46 +85,28 @@ pub struct Charge {
     pub empty: u64,
 }
 
-// What the picked guest and the first spare, if there is any, make the next tick use.
-pub fn portion_for(pick: Pick, first: Spare, any: bool) -> Portion
-    ensures { PortionTold pick first any result }
+// What the picked guest and the first spare, where there are such, make the next tick use.
+#[tactic(auto, unfolding(crate::specs::Choice::pick_of))]
+pub fn portion_for(pick: Option<Pick>, first: Option<Spare>) -> Portion
+    ensures { PortionTold pick first result }
 {
-    let Pick::Picked(i, d, c) = pick else {
-        if any {
-            return Portion::Burn(first.owner, first.deadline, first.capacity);
-        }
-        return Portion::Nothing;
+    let Some(p) = pick else {
+        return match first {
+            Some(x) => Portion::Burn(x.owner, x.deadline, x.capacity),
+            None => Portion::Nothing,
+        };
     };
-    if any {
-        if first.deadline <= d {
-            return Portion::Run(
-                i,
-                Source::SpareOf(first.owner),
-                first.deadline,
-                first.capacity,
-            );
-        }
+    match first.filter(|x| x.deadline <= p.deadline) {
+        Some(x) => Portion::Run(p.guest, Source::SpareOf(x.owner), x.deadline, x.capacity),
+        None => Portion::Run(p.guest, Source::Own, p.deadline, p.current),
     }
-    Portion::Run(i, Source::Own, d, c)
-}
-
-fn smaller(a: u64, b: u64) -> u64
-    ensures { result ≡ min a b }
-{
-    if a < b {
-        return a;
-    }
-    b
 }
 
 // A spare is spent where the ticks reach its capacity.
 fn removed_by(ticks: u64, capacity: u64) -> usize
     ensures { result ≡ removed_by ticks capacity }
 {
-    if capacity <= ticks {
-        return 1;
-    }
-    0
+    usize::from(capacity <= ticks)
 }
 
 // So many ticks, charged to nobody yet.
@@ -150,26 +116,23 @@ fn blank(ticks: u64, guest: usize) -> Charge
     Charge {
         ticks,
         guest,
-        own: 0,
-        borrowed: 0,
-        spent: 0,
-        removed: 0,
-        burned: 0,
-        empty: 0,
+        ..Charge::default()
     }
 }
 
 fn run_charge(source: Source, i: usize, ticks: u64, removed: usize) -> Charge
     ensures { result ≡ run_charge source i ticks removed }
 {
-    let c = blank(ticks, i);
     match source {
-        Source::Own => Charge { own: ticks, ..c },
+        Source::Own => Charge {
+            own: ticks,
+            ..blank(ticks, i)
+        },
         Source::SpareOf(_) => Charge {
             borrowed: ticks,
             spent: ticks,
             removed,
-            ..c
+            ..blank(ticks, i)
         },
     }
 }
@@ -180,24 +143,21 @@ pub fn charge_of(portion: Portion, left: u64, last: usize) -> Charge
 {
     match portion {
         Portion::Run(i, source, _, span) => {
-            let ticks = smaller(left, span);
-            let removed = removed_by(ticks, span);
-            run_charge(source, i, ticks, removed)
+            let ticks = left.min(span);
+            run_charge(source, i, ticks, removed_by(ticks, span))
         }
         Portion::Burn(_, _, span) => {
-            let ticks = smaller(left, span);
-            let removed = removed_by(ticks, span);
-            let c = blank(ticks, last);
+            let spent = left.min(span);
             Charge {
-                spent: ticks,
-                removed,
-                burned: ticks,
-                ..c
+                spent,
+                removed: removed_by(spent, span),
+                burned: spent,
+                ..blank(spent, last)
             }
         }
-        Portion::Nothing => {
-            let c = blank(left, last);
-            Charge { empty: left, ..c }
-        }
+        Portion::Nothing => Charge {
+            empty: left,
+            ..blank(left, last)
+        },
     }
 }

@@ -19,10 +19,10 @@ use Rattle.rules.specs.Model.{Guest, Spare, guest_at, active, budget_of, tallies
 use Rattle.rules.specs.Places.{guest_of, spare_of, guest_place_is_zero, spare_place_is_zero, model}
 use Rattle.rules.specs.Sound.{guest_in_range, spare_in_range, behind_owner, rising, in_range, sound}
 use Rattle.rules.specs.Table.{table_rows, good_table}
-use Rattle.rules.specs.Refusals.{first, number_of, refusal_number}
+use Rattle.rules.specs.Refusals.{first, number_of}
 use Rattle.rules.specs.declared.Table.{Table}
-use Rattle.rules.specs.declared.Answer.{Answer}
-use Rattle.rules.specs.declared.Answer.TheVariants.{Went, Refused}
+use Rattle.std.specs.Prelude.{Result, Ok, Err}
+use Rattle.std.specs.Result.{is_ok}
 use Rattle.rules.specs.declared.Refusal.{Refusal}
 use Rattle.promises.proofs.Facts.{points, sane_model}
 use Rattle.promises.proofs.Outcomes.{refusal_counts}
@@ -141,17 +141,19 @@ module _ (s : State) (good : good_table s.table ≡ true) (few : s.listed ≤ sp
         ∙ ap₂ (λ (a b : Bool). a && b) (used ∙ ap (λ (t : Bool). t && in_range (model s)) (sym (and_intro good (le-leb s.listed spare_places few))))
         (ap₂ (λ (a b : Bool). a && every guest_place_is_zero (drop n s.guests) && (b && every spare_place_is_zero (drop s.listed s.spares))) (sym (eq-eqb _ _ hg)) (sym (eq-eqb _ _ hs)))
 
+    -- with the places split into those in use and the others
+    pub split_asked : {used : List GuestPlace} {unused : List GuestPlace} {listed : List SparePlace} {free : List SparePlace} → used ≡ take n s.guests → unused ≡ drop n s.guests → listed ≡ take s.listed s.spares → free ≡ drop s.listed s.spares
+        → every (guest_holds s.now) (zip_with guest_of (take n s.table.entries) used) && every (spare_place_holds s.now (zip_with guest_of (take n s.table.entries) used)) listed && eqb (total place_tallies used + s.burned + s.empty) s.now && rising (map spare_of listed) && leb (s.listed + active_count (in_use n s.guests)) spare_places && every guest_place_is_zero unused && every spare_place_is_zero free ≡ sound s
+    unfolding guests_of
+    split_asked u v l f = rw (u, v, l, f) sound-asked
+
 -- ---- states that are not sound
 
-pub table-refused : (t : Table) (a : Answer) (r : Refusal) → number_of a ≡ first (table_rows t) → a ≡ Refused r → good_table t ≡ false
+-- the check of its table, by the answer
+pub table_told : {A : Type 0} (t : Table) (a : Result A Refusal) → number_of a ≡ first (table_rows t) → is_ok a ≡ good_table t
 unfolding good_table
-table-refused t a r e h =
-    let number : first (table_rows t) ≡ refusal_number r = sym e ∙ ap number_of h in
-    ne_eqb (first (table_rows t)) 0 (λ z. omega (arith, number, z, refusal_counts r))
-
-pub table_went : (t : Table) (a : Answer) → number_of a ≡ first (table_rows t) → a ≡ Went → good_table t ≡ true
-unfolding good_table
-table_went t a e h = eq-eqb (first (table_rows t)) 0 (sym e ∙ ap number_of h)
+table_told t (Ok x) e = sym (eq-eqb (first (table_rows t)) 0 (sym e))
+table_told t (Err r) e = sym (ne_eqb (first (table_rows t)) 0 (λ z. omega (arith, e, z, refusal_counts r)))
 
 module _ (s : State) where
   pub bad_table : good_table s.table ≡ false → false ≡ sound s

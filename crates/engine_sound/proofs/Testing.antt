@@ -1,89 +1,70 @@
--- What the places of a state hold, one by one, and the soundness test put together.
+-- What the places of a state hold: an entry and its guest, a spare and its owner, zeros, and the order of the spares.
 use mathlib.Core.Path.{◌≡◌, refl, sym, ap, ap₂, ◌∙◌}
-use mathlib.Core.Bool.{Bool, true, false, ◌&&◌, and_assoc, and-true}
-use mathlib.Core.List.{List, [], ◌∷◌, map}
-use Prim.Native.Nat.{ℕ, zero, suc, ◌+◌, ◌-◌, ◌≤◌, ◌<◌}
+use mathlib.Core.Bool.{Bool, true, false, ◌&&◌, and-false}
+use Rattle.std.specs.List.{IsAllAdjacentAnswer, zip}
+use mathlib.Core.List.{List, [], ◌∷◌, map, zip_with}
+use Prim.Native.Nat.{ℕ, zero, suc, ◌≤◌, ◌<◌}
 use native.Mathlib.Numerals.{add-one}
 use native.Mathlib.Omega.{arith}
-use lib.Dec.{leb, ltb, eqb}
-use lib.ListN.{length, get_or, take}
-use lib.Seq.{get_or-take, length-take-le}
+use lib.Dec.{ltb}
+use lib.ListN.{length, get_or}
 use Rattle.rules.specs.declared.Entry.{Entry}
 use Rattle.rules.specs.declared.Guest.{Guest as GuestPlace}
 use Rattle.rules.specs.declared.Spare.{Spare as SparePlace}
-use Rattle.rules.specs.Limits.{last_tick}
 use Rattle.rules.specs.Table.{no_entry}
-use Rattle.rules.specs.Model.{Guest, no_guest, guest_at}
-use Rattle.rules.specs.Places.{guest_of, spare_of, no_guest_place}
+use Rattle.rules.specs.Places.{guest_of, spare_of, no_guest_place, no_spare_place}
 use Rattle.rules.specs.Sound.{rising}
 use Rattle.rules.specs.Steps.{before}
 use Rattle.promises.proofs.Packing.{zip_at, zip_length}
-use Rattle.engine_sound.specs.Inner.{guests_of, tally_small, place_tallies, spare_fits, spare_place_holds}
-use Rattle.laws.specs.Lists.{every, total}
-use Rattle.laws.proofs.Cases.{and_both, and_intro, by_test, never}
-use Rattle.laws.proofs.Elements.{every_at}
-use borrow.Author.Tests.{leb-true, ltb-true, eqb-true, le-leb}
+use Rattle.engine_sound.specs.Inner.{spare_fits, spare_place_holds}
+use Rattle.laws.specs.Lists.{every}
+use Rattle.laws.proofs.Cases.{and_intro}
+use borrow.Author.Tests.{lt-ltb, le-ltb}
 
-module _ (entries : List Entry) (guests : List GuestPlace) (count : ℕ) (he : count ≤ length entries) (hg : count ≤ length guests) where
-  pub guest_at_lem : (i : ℕ) → i < count → guest_of (get_or entries i no_entry) (get_or guests i no_guest_place) ≡ get_or (guests_of entries guests count) i no_guest
-  unfolding guests_of
-  guest_at_lem i h =
-      ap₂ guest_of (sym (get_or-take count entries i no_entry h)) (sym (get_or-take count guests i no_guest_place h))
-      ∙ sym (zip_at i (take count entries) (take count guests) (omega (arith, length-take-le count entries he)) (omega (arith, length-take-le count guests hg)))
+-- two lists side by side, as they are and as pairs
+pub every_zip : {A B C : Type 0} (p : C → Bool) (f : A → B → C) (xs : List A) (ys : List B) → every p (zip_with f xs ys) ≡ every (λ q. p (f q.0 q.1)) (zip xs ys)
+unfolding zip_with
+every_zip p f [] [] = refl
+every_zip p f [] (y ∷ ys) = refl
+every_zip p f (x ∷ xs) [] = refl
+every_zip p f (x ∷ xs) (y ∷ ys) = ap (λ b. p (f x y) && b) (every_zip p f xs ys)
 
-  pub guests_long : length (guests_of entries guests count) ≡ count
-  unfolding guests_of
-  guests_long = zip_length count (take count entries) (take count guests) (length-take-le count entries he) (length-take-le count guests hg)
+-- ---- a spare and its owner
 
--- neither tally of a guest among the small ones is past the end of time
-module _ (guests : List GuestPlace) (count : ℕ) (h : every tally_small (take count guests) ≡ true) (k : count ≤ length guests) (i : ℕ) (l : i < count) where
-  small : tally_small (get_or guests i no_guest_place) ≡ true
-  small =
-      let inside : i < length (take count guests) = rw (length-take-le count guests k) l in
-      rw (get_or-take count guests i no_guest_place l) at (every_at tally_small (take count guests) h no_guest_place i inside)
+module _ (now : ℕ) (es : List Entry) (gs : List GuestPlace) (x : SparePlace) (e : length es ≡ length gs) where
+  pub owner_asked : x.owner < length gs → spare_fits now (guest_of (get_or es x.owner no_entry) (get_or gs x.owner no_guest_place)) (spare_of x) ≡ spare_place_holds now (zip_with guest_of es gs) x
+  owner_asked h = rw (zip_length (length gs) es gs e refl, lt-ltb x.owner (length gs) h, zip_at x.owner es gs (omega arith) h)
 
-  pub small_own : (get_or guests i no_guest_place).own ≤ last_tick
-  small_own = leb-true _ _ (and_both (leb (get_or guests i no_guest_place).own last_tick) (leb (get_or guests i no_guest_place).borrowed last_tick) small).0
+  -- one whose owner is no guest fails the test
+  pub no_owner : length gs ≤ x.owner → ltb x.owner (length gs) ≡ spare_place_holds now (zip_with guest_of es gs) x
+  no_owner h = rw (zip_length (length gs) es gs e refl, le-ltb x.owner (length gs) h)
 
-  pub small_borrowed : (get_or guests i no_guest_place).borrowed ≤ last_tick
-  small_borrowed = leb-true _ _ (and_both (leb (get_or guests i no_guest_place).own last_tick) (leb (get_or guests i no_guest_place).borrowed last_tick) small).1
+-- ---- places that are zero
 
--- guests whose tallies add up to a tick all have small ones
-small_total : (gs : List GuestPlace) → total place_tallies gs ≤ last_tick → every tally_small gs ≡ true
-small_total [] h = refl
-small_total (g ∷ gs) h =
-    and_intro (and_intro (le-leb g.own last_tick (omega (arith, h))) (le-leb g.borrowed last_tick (omega (arith, h)))) (small_total gs (omega (arith, h)))
-
--- so where one is not small they add up to none
-pub too_large : (gs : List GuestPlace) (burned empty now : ℕ) → now ≤ last_tick → every tally_small gs ≡ false → false ≡ eqb (total place_tallies gs + burned + empty) now
-too_large gs burned empty now l h =
-    by_test (λ t. false ≡ t) (eqb (total place_tallies gs + burned + empty) now)
-    (λ e. never (small_total gs (omega (arith, l, eqb-true (total place_tallies gs + burned + empty) now e))) h)
-    (λ _. refl)
-
--- and whoever its owner is: one that is no guest fails the test, whatever was read in its stead
-pub owner_asked : (now : ℕ) (gs : List Guest) (x : SparePlace) (n : ℕ) (b : Bool) (g : Guest) → length gs ≡ n → b ≡ spare_fits now g (spare_of x) → (x.owner < n → g ≡ guest_at x.owner gs) → ltb x.owner n && b ≡ spare_place_holds now gs x
-owner_asked now gs x n b g e f h =
-    rw e
-    (by_test (λ t. t && b ≡ t && spare_fits now (guest_at x.owner gs) (spare_of x)) (ltb x.owner n)
-    (λ l. f ∙ ap (λ (k : Guest). spare_fits now k (spare_of x)) (h (ltb-true _ _ l)))
-    (λ _. refl))
+-- what equals the zero place is zero
+pub zero_told : {A : Type 0} (is_zero : A → Bool) (eq : A → A → Bool) (none : A) → ((x : A) → eq x none ≡ is_zero x) → {z : A} → z ≡ none → (xs : List A) → every (λ x. eq x z) xs ≡ every is_zero xs
+zero_told is_zero eq none same e [] = refl
+zero_told is_zero eq none same {z} e (x ∷ xs) = ap₂ (λ (a b : Bool). a && b) (ap (eq x) e ∙ same x) (zero_told is_zero eq none same e xs)
 
 -- ---- the order of the spares
 
-rising_more : (xs : List SparePlace) (i : ℕ) (z : SparePlace) → suc i < length xs → rising (map spare_of (take (suc (suc i)) xs)) ≡ rising (map spare_of (take (suc i) xs)) && before (spare_of (get_or xs i z)) (spare_of (get_or xs (suc i) z))
-rising_more [] i z h = absurd (omega (arith, h))
-rising_more (x ∷ []) i z h = absurd (omega (arith, h))
-rising_more (x ∷ y ∷ xs) zero z h = and-true _
-rising_more (x ∷ y ∷ xs) (suc i) z h = rw (rising_more (y ∷ xs) i z (omega (arith, h)), and_assoc)
+module _ (d : SparePlace) where
+  -- the spare at k comes before the next
+  abbrev Rises : List SparePlace → ℕ → Bool
+  Rises xs k = before (spare_of (get_or xs k d)) (spare_of (get_or xs (suc k) d))
 
--- the first i spares rise exactly where ok is true
-pub record Risen (xs : List SparePlace) (i : ℕ) (ok : Bool) : Type 0 where
-  pub low : 1 ≤ i
-  pub so : ok ≡ rising (map spare_of (take i xs))
+  all_rise : (xs : List SparePlace) → ((k : ℕ) → suc k < length xs → true ≡ Rises xs k) → true ≡ rising (map spare_of xs)
+  all_rise [] h = refl
+  all_rise (x ∷ []) h = refl
+  all_rise (x ∷ y ∷ xs) h = sym (and_intro (sym (h 0 (omega arith))) (sym (all_rise (y ∷ xs) (λ k l. h (suc k) (omega arith)))))
 
-pub risen_more : (xs : List SparePlace) (i : ℕ) (ok : Bool) → Risen xs i ok → (z : SparePlace) (b : Bool) → b ≡ before (spare_of (get_or xs (i - 1) z)) (spare_of (get_or xs i z)) → i < length xs → Risen xs (i + 1) (ok && b)
-risen_more xs zero ok r z b e h = absurd (omega (arith, r.low))
-risen_more xs (suc j) ok r z b e h =
-    let at : suc j - 1 ≡ j = omega arith in
-    record { low = omega arith; so = rw (add-one (suc j), rising_more xs j z h, ← r.so, e, at) }
+  one_falls : (xs : List SparePlace) (k : ℕ) → suc k < length xs → false ≡ Rises xs k → false ≡ rising (map spare_of xs)
+  one_falls [] k h f = absurd (omega arith)
+  one_falls (x ∷ []) k h f = absurd (omega arith)
+  one_falls (x ∷ y ∷ xs) zero h f = rw (sym f)
+  one_falls (x ∷ y ∷ xs) (suc k) h f = rw (sym (one_falls (y ∷ xs) k (omega arith) f), and-false)
+
+-- the spares rise where each comes before the next
+pub rising_told : (xs : List SparePlace) (r : Bool) → IsAllAdjacentAnswer (λ x y b. b ≡ before (spare_of x) (spare_of y)) xs r → r ≡ rising (map spare_of xs)
+rising_told xs true h = all_rise no_spare_place xs (λ k l. rw add-one at (h k no_spare_place (rw add-one l)))
+rising_told xs false h = one_falls no_spare_place xs h.0 (rw add-one at h.1) (rw add-one at (h.2 no_spare_place))

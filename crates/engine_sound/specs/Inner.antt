@@ -4,7 +4,7 @@ use mathlib.Core.List.{List, zip_with}
 use Rattle.rules.specs.declared.Entry.{Entry}
 use Rattle.rules.specs.declared.Guest.{Guest as GuestPlace}
 use Rattle.rules.specs.declared.Spare.{Spare as SparePlace}
-use Rattle.rules.specs.Limits.{last_tick, deadline_bound}
+use Rattle.rules.specs.Limits.{deadline_bound}
 use Rattle.rules.specs.Model.{Guest, Spare, guest_at, active, budget_of, deadline_of, due_of, capacity_of}
 use Rattle.rules.specs.Places.{guest_of, spare_of}
 use Rattle.rules.specs.Sound.{guest_in_range}
@@ -30,10 +30,6 @@ spare_fits now g x =
 -- and of one spare in its place, whoever its owner is
 abbrev pub spare_place_holds : ℕ → List Guest → SparePlace → Bool
 spare_place_holds now gs x = ltb x.owner (length gs) && spare_fits now (guest_at x.owner gs) (spare_of x)
-
--- neither tally is past the end of time
-abbrev pub tally_small : GuestPlace → Bool
-tally_small g = leb g.own last_tick && leb g.borrowed last_tick
 
 -- both tallies of a guest in its place
 abbrev pub place_tallies : GuestPlace → ℕ

@@ -1,21 +1,16 @@
--- `engine_sound::guests_hold` meets its contract: at i the first i guests are tested.
-use mathlib.Core.Path.{ap, ◌∙◌}
-use native.Mathlib.Omega.{arith}
-use Rattle.rules.specs.Model.{no_guest}
-use Rattle.engine_sound.proofs.Testing.{guest_at_lem, guests_long}
-use Rattle.laws.proofs.Loops.{tested_more, tested_rest}
+-- `engine_sound::guests_hold` meets its contract: the pairs of an entry and a guest are the guests.
+use Rattle.std.proofs.Common.{rules, sym, ◌∙◌}
+use Rattle.std.proofs.lemmas.Iterator.{YieldsList-from_slice, YieldsList-from_zip}
+use Rattle.std.proofs.lemmas.Iterator.Search.{all_from_yields_List}
+use Rattle.engine_sound.proofs.Testing.{every_zip}
+use Rattle.rules.specs.declared.Entry.{Entry}
+use Rattle.rules.specs.declared.Guest.{Guest}
+use Rattle.rules.specs.Places.{guest_of}
 use Rattle.engine_sound.specs.Inner.{guest_holds}
-use borrow.Author.Rules.{rules}
 use Rattle.engine_sound.proofs.guests_hold.Goals as goal
-
-pub loop-i-preserved : goal.loop-i-preserved
-loop-i-preserved c =
-    let l = c in
-    let a = l in
-    let element = guest_at_lem a.args.entries a.args.guests a.args.count (search rules) (search rules) l.loop-i.i (search rules) in
-    (search rules, tested_more l.loop-i.invariant.1 no_guest _ (c.guest_holds-b.ensures ∙ ap (guest_holds a.args.now) element) (omega (arith, guests_long a.args.entries a.args.guests a.args.count (search rules) (search rules))))
 
 pub returns : goal.returns
 returns c =
-    let a = c in
-    tested_rest c.loop-i.invariant.1 (omega (arith, guests_long a.args.entries a.args.guests a.args.count (search rules) (search rules)))
+    all_from_yields_List (λ (q : Entry × Guest). guest_holds c.args.now (guest_of q.0 q.1)) c.all.new.self _ _ c.all.ensures.ran
+    (YieldsList-from_zip {s = c.zip.result} (YieldsList-from_slice c.args.entries.now (cc)) (YieldsList-from_slice c.args.guests.now (cc))) (λ x b q k. search rules)
+    ∙ sym (every_zip (guest_holds c.args.now) guest_of c.args.entries.now c.args.guests.now)

@@ -1,23 +1,26 @@
 -- `engine_sound::is_sound` meets its contract: a count past its places is not sound.
+use mathlib.Core.Path.{ap, sym, ◌∙◌}
+use mathlib.Core.Bool.{not}
 use native.Mathlib.Omega.{arith}
+use borrow.Author.Tests.{lt-leb}
 use Rattle.promises.proofs.GoodTable.{good_table_lem}
-use Rattle.engine_sound.proofs.Sounding.{table-refused, table_went, bad_table, too_many, too_late}
+use Rattle.engine_sound.proofs.Sounding.{table_told, bad_table, too_many, too_late}
 use borrow.Author.Rules.{rules}
 use Rattle.engine_sound.proofs.is_sound.Goals as goal
 
-pub returns-in_default : goal.returns-in_default
-returns-in_default c =
-    let a = c in
-    bad_table a.args.s (table-refused a.args.s.table a.check-answer.result _ a.check-answer.ensures.answer c.in_default.is)
+pub returns-then-is_err : goal.returns-then-is_err
+returns-then-is_err c =
+    let t = c.args.s.table in
+    bad_table c.args.s (sym (table_told t c.check.result c.check.ensures.answer) ∙ c.is_err.ensures.negation ∙ ap not c.if-is_err.true)
 
 pub returns-then-s-gt-SPARE_PLACES : goal.returns-then-s-gt-SPARE_PLACES
 returns-then-s-gt-SPARE_PLACES c = too_many c.args.s (omega arith)
 
-pub returns-then-s-gt-LAST_TICK : goal.returns-then-s-gt-LAST_TICK
-returns-then-s-gt-LAST_TICK c = too_late c.args.s (omega arith)
-
 pub all_holds-requires : goal.all_holds-requires
 all_holds-requires c =
-    let a = c in
-    let good = table_went a.args.s.table a.check-answer.result a.check-answer.ensures.answer c.in-Went.is in
-    (good, (good_table_lem a.args.s.table good).count_high, search rules, search rules)
+    let t = c.args.s.table in
+    let good = sym (table_told t c.check.result c.check.ensures.answer) ∙ c.is_err.ensures.negation ∙ ap not c.if-is_err.false in
+    (good, (good_table_lem t good).count_high, search rules, search rules)
+
+pub returns-else-s-le-LAST_TICK : goal.returns-else-s-le-LAST_TICK
+returns-else-s-le-LAST_TICK c = lt-leb _ _ c.if-s-le-LAST_TICK.false ∙ too_late c.args.s c.if-s-le-LAST_TICK.false

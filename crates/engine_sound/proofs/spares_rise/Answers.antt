@@ -1,10 +1,12 @@
--- `engine_sound::spares_rise` meets its contract: at i the first i spares rise.
-use Rattle.rules.specs.Places.{no_spare_place}
-use Rattle.engine_sound.proofs.Testing.{risen_more}
-use borrow.Author.Rules.{rules}
+-- `engine_sound::spares_rise` meets its contract: each spare and the next are compared.
+use Rattle.std.proofs.Common.{rules}
+use Rattle.std.proofs.lemmas.List.Sorted.{answers_always}
+use Rattle.rules.specs.Places.{spare_of}
+use Rattle.rules.specs.Steps.{before}
+use Rattle.engine_sound.proofs.Testing.{rising_told}
 use Rattle.engine_sound.proofs.spares_rise.Goals as goal
 
-pub loop-i-preserved : goal.loop-i-preserved
-loop-i-preserved c =
-    let l = c in
-    (search rules, search rules, risen_more l.args.spares l.loop-i.i l.loop-i.ok l.loop-i.invariant.2 no_spare_place _ c.comes_before-b.ensures (search rules))
+pub returns : goal.returns
+returns c =
+    rising_told c.args.spares.now c.is_sorted_by.result
+    (c.is_sorted_by.ensures.cases (λ x y. before (spare_of x) (spare_of y)) (answers_always _ _ _ (λ f a r g h. search rules)))

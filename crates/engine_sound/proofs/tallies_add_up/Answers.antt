@@ -1,11 +1,14 @@
--- `engine_sound::tallies_add_up` meets its contract: what is past the end of time adds up to no tick.
-use mathlib.Core.Path.{sym, ◌∙◌}
-use lib.ListN.{take}
-use Rattle.engine_sound.proofs.Testing.{too_large}
-use borrow.Author.Rules.{rules}
+-- `engine_sound::tallies_add_up` meets its contract: the sum so far is right where it fits.
+use Rattle.std.proofs.Common.{rules, arith, refl, take, get_or}
+use Rattle.laws.specs.Lists.{total}
+use Rattle.laws.proofs.Loops.{summed_more}
+use Rattle.rules.specs.Places.{no_guest_place}
+use Rattle.engine_sound.specs.Inner.{place_tallies}
 use Rattle.engine_sound.proofs.tallies_add_up.Goals as goal
 
-pub returns-then-not-tallies_small : goal.returns-then-not-tallies_small
-returns-then-not-tallies_small c =
-    let a = c in
-    too_large (take a.args.count a.args.guests) a.args.burned a.args.empty a.args.now (search rules) (sym c.tallies_small.ensures ∙ c.if-not-tallies_small.true)
+pub loop-g-preserved : goal.loop-g-preserved
+loop-g-preserved c =
+    let gs = c.args.guests.now in
+    let i = c.loop-g.g-index in
+    let far = summed_more {f = place_tallies} {xs = gs} {i = i} {sum = total place_tallies (take i gs)} (record { so = refl }) no_guest_place (place_tallies (get_or gs i no_guest_place)) refl (search rules) in
+    omega (arith, far.so)
