@@ -2,5 +2,5 @@
 #![tactic(auto)]
 
 pub use engine_jobs::{arrive, done};
-pub use engine_state::{active, fresh, margin};
+pub use engine_state::{active, fresh, margin, no_state};
 pub use engine_time::{advance, ask, walk};

@@ -63,7 +63,7 @@ module _ (s : State) (h : sound s ≡ true) where
 
 module _ (s : State) (i : ℕ) where
   -- those behind 1 and 2, of the guest in hand
-  abbrev RowsOf : Guest → List Row
+  abbrev pub RowsOf : Guest → List Row
   RowsOf g =
       eqb (jobs_of g) most_jobs gives 4
       ∷ (idle_guest g && eqb (occupied (model s)) spare_places) gives 5

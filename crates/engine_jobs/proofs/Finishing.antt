@@ -43,7 +43,7 @@ module _ (i : ℕ) (e : Entry) (d own borrowed : ℕ) (ss : List Spare) where
   leaves_spare (suc zero) (suc c) h = refl
   leaves_spare (suc (suc j)) c h = never h (rw (ne_eqb (suc (suc j)) 1 (λ e. omega arith)))
 
-pub leaving_active : (j c : ℕ) → eqb j 1 && ltb 0 c ≡ true → 0 < j
+leaving_active : (j c : ℕ) → eqb j 1 && ltb 0 c ≡ true → 0 < j
 leaving_active j c h = let one : j ≡ 1 = eqb-true j 1 (and_both (eqb j 1) (ltb 0 c) h).0 in omega arith
 
 active-bit : (Q T j c d own borrowed : ℕ) → 0 < j → bit_of (guest Q T j c d own borrowed) ≡ 1
@@ -80,11 +80,14 @@ module _ (s : State) (h : sound s ≡ true) (i : ℕ) (inside : i < s.table.coun
   leftover = spare here.deadline i here.current
 
   -- each active guest has a place in the list of spares
-  pub spare_fits : 0 < here.jobs → s.listed < spare_places
+  spare_fits : 0 < here.jobs → s.listed < spare_places
   spare_fits j =
       let e = entry_at s i in
       let bit : bit_of (guest_at i gs) ≡ 1 = ap bit_of (guest_here s h i inside) ∙ active-bit e.budget e.period here.jobs here.current here.deadline here.own here.borrowed j in
       omega (arith, total_changed no_guest bit_of i (λ _. no_guest) gs (guest_inside s h i inside), bit, (sane_model s h).room, spares_count s h)
+
+  pub has_place : eqb here.jobs 1 && ltb 0 here.current ≡ true → s.listed < spare_places
+  has_place l = spare_fits (leaving_active here.jobs here.current l)
 
   leave_here : {xs : List Spare} → leave i (Here s i) ss ≡ xs → leave i (guest_at i gs) ss ≡ xs
   leave_here e = ap (λ (g : Guest). leave i g ss) (guest_here s h i inside) ∙ e

@@ -2,11 +2,11 @@
 ghost use Rattle.std.specs.Prelude.{◌≡◌, true, ◌&&◌, ◌<◌, ltb, eqb, get_or};
 ghost use Rattle.rules.specs.declared.Entry.{Entry};
 ghost use Rattle.rules.specs.Places.{model, packed, guest_of, guest_place, no_guest_place};
-ghost use Rattle.rules.specs.Sound.{sound};
 ghost use Rattle.rules.specs.Steps.{finish, done};
 
 use crate::spares::inserted;
-use rules::{Answer, Guest, Outcome, Spare, State};
+use engine_sound::Sound;
+use rules::{Guest, Spare, State};
 
 // Rule 9: a guest that goes idle keeps no budget; what was left is its spare's.
 pub(crate) fn finished(g: Guest) -> Guest
@@ -28,17 +28,17 @@ pub(crate) fn finished(g: Guest) -> Guest
 pub(crate) fn leaves(g: Guest) -> bool
     ensures { result ≡ eqb g.jobs 1 && ltb 0 g.current }
 {
-    let last = g.jobs == 1;
-    let some = 0 < g.current;
-    last & some
+    g.jobs == 1 && 0 < g.current
 }
 
 // The leftover is listed and taken from the guest in one state: no state has it twice.
-pub(crate) fn with_leftover(s: State, i: usize) -> Outcome
-    requires s_value { (sound s ≡ true) × (i < s.table.count) }
-    requires no_guest_place_value { eqb (get_or s.guests i no_guest_place).jobs 1 && ltb 0 (get_or s.guests i no_guest_place).current ≡ true }
-    ensures { (result.answer ≡ Answer.Went) × (result.state ≡ packed (done i (model s))) }
+#[tactic(auto, using(engine_state::proofs::Answering::guests_fit))]
+pub(crate) fn with_leftover(s: Sound<'_>, i: usize) -> State
+    requires inside { i < s.state.now.table.count }
+    requires no_guest_place_value { eqb (get_or s.state.now.guests i no_guest_place).jobs 1 && ltb 0 (get_or s.state.now.guests i no_guest_place).current ≡ true }
+    ensures { result ≡ packed (done i (model s.entry.state.now)) }
 {
+    let s = *s.state;
     let mut guests = s.guests;
     let g = guests[i];
     let leftover = Spare {
@@ -46,17 +46,11 @@ pub(crate) fn with_leftover(s: State, i: usize) -> Outcome
         owner: i,
         capacity: g.current,
     };
-    let listed = s.spares;
-    let spares = inserted(listed, s.listed, leftover);
-    let listed = s.listed + 1;
     guests[i] = finished(g);
-    Outcome {
-        answer: Answer::Went,
-        state: State {
-            guests,
-            listed,
-            spares,
-            ..s
-        },
+    State {
+        guests,
+        listed: s.listed + 1,
+        spares: inserted(s.spares, s.listed, leftover),
+        ..s
     }
 }

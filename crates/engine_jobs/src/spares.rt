@@ -1,53 +1,27 @@
 // The list of spares in its places, with one more in order.
-ghost use Rattle.std.specs.Prelude.{◌≡◌, true, ◌∷◌, ◌++◌, map, ◌<◌, ◌≤◌, take};
-ghost use Rattle.std.proofs.Math.Seq.{slice};
+ghost use Rattle.std.specs.Prelude.{◌≡◌, true, map, ◌<◌, ◌≤◌, length, take};
+ghost use Rattle.std.specs.List.{position_or_len};
 ghost use Rattle.laws.specs.Lists.{padded, unused};
 ghost use Rattle.rules.specs.Limits.{spare_places};
-ghost use Rattle.rules.specs.Steps.{insert_spare};
+ghost use Rattle.rules.specs.Steps.{before, insert_spare};
 ghost use Rattle.rules.specs.Places.{spare_of, spare_place, no_spare_place, spare_place_is_zero};
 
 use rules::{SPARE_PLACES, Spare};
 
 // Where x belongs: before the first spare that it comes before. What stands there and behind it is not compared.
-fn place_of(spares: [Spare; SPARE_PLACES], listed: usize, x: Spare) -> usize
-    requires { listed ≤ spare_places }
-    ensures { (result ≤ listed) × (insert_spare (spare_of x) (map spare_of (take listed spares)) ≡ map spare_of (take result spares ++ (x ∷ slice result listed spares))) }
+fn place_of(spares: &[Spare], x: Spare) -> usize
+    ensures inside { result ≤ length spares.now }
+    ensures place { result ≡ position_or_len (λ y. before (spare_of x) (spare_of y)) spares.now }
 {
-    let mut i: usize = 0;
-    while i < listed {
-        let y = spares[i];
-        if engine_choice::comes_before(x, y) {
-            return i;
-        }
-        i = i + 1;
-    }
-    i
+    spares
+        .iter()
+        .position(|y| engine_choice::comes_before(x, *y))
+        .unwrap_or(spares.len())
 }
 
-// x at the place `at`, and each spare from there on one place further; the places behind them are not touched.
-fn put_at(
-    spares: [Spare; SPARE_PLACES],
-    listed: usize,
-    at: usize,
-    x: Spare,
-) -> [Spare; SPARE_PLACES]
-    requires at_le_listed { (at ≤ listed) × (listed < spare_places) }
-    requires spares_value { unused spare_place_is_zero spare_places listed spares ≡ true }
-    ensures { result ≡ padded spare_places no_spare_place (take at spares ++ (x ∷ slice at listed spares)) }
-{
-    let mut t = spares;
-    t[at] = x;
-    let mut i = at;
-    while i < listed {
-        t[i + 1] = spares[i];
-        i = i + 1;
-    }
-    t
-}
-
-// The list with one more spare, in its place.
+// The list with one more spare, in its place; each spare from there on moves one place further.
 pub(crate) fn inserted(
-    spares: [Spare; SPARE_PLACES],
+    mut spares: [Spare; SPARE_PLACES],
     listed: usize,
     x: Spare,
 ) -> [Spare; SPARE_PLACES]
@@ -55,6 +29,8 @@ pub(crate) fn inserted(
     requires spares_value { unused spare_place_is_zero spare_places listed spares ≡ true }
     ensures { result ≡ padded spare_places no_spare_place (map spare_place (insert_spare (spare_of x) (map spare_of (take listed spares)))) }
 {
-    let at = place_of(spares, listed, x);
-    put_at(spares, listed, at, x)
+    let at = place_of(&spares[..listed], x);
+    spares.copy_within(at..listed, at + 1);
+    spares[at] = x;
+    spares
 }

@@ -7,7 +7,7 @@ use native.Mathlib.Omega.{arith}
 use lib.Count.{ones}
 use lib.ListN.{length, take}
 use lib.Seq.{length-take-le}
-use Rattle.rules.specs.declared.Answer.TheVariants.{Went}
+use Rattle.std.specs.Prelude.{Ok}
 use Rattle.rules.specs.declared.State.{State}
 use Rattle.rules.specs.Calls.{told, ask_rows, ActiveTold}
 use Rattle.rules.specs.Limits.{guest_places}
@@ -37,7 +37,7 @@ module _ (s : State) where
         let n = s.table.count in
         e ∙ mask_shown (take n s.table.entries) (take n s.guests) (length-take-le n s.table.entries (omega (arith, fits, he)) ∙ sym (length-take-le n s.guests (omega (arith, fits, hg))))
 
-    pub active-told : {count : ℕ} → count ≡ ones mask → ActiveTold s (record { answer = Went; mask = mask; actives = count })
+    pub active-told : {count : ℕ} → count ≡ ones mask → ActiveTold s (Ok (record { mask = mask; actives = count }))
     active-told {count} f =
         let n = asked h in
         record {

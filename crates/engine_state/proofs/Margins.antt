@@ -9,7 +9,7 @@ use lib.IntN.{ℤ, pos, negsuc, ◌-ℤ◌}
 use lib.Signed.{mag}
 use mir.Syntax.{w64}
 use mir.Val.{SFits}
-use Rattle.rules.specs.declared.Answer.TheVariants.{Went}
+use Rattle.std.specs.Prelude.{Ok}
 use Rattle.rules.specs.declared.State.{State}
 use Rattle.rules.specs.Calls.{told, margin_rows, MarginTold}
 use Rattle.rules.specs.Model.{Guest, deadline_of}
@@ -48,7 +48,7 @@ module _ (s : State) (i : ℕ) where
       unfolding model
       deadline_small = omega (arith, (sane_model s h).time, (guest_good s h i inside).early)
 
-      pub margin-told : {ticks : ℤ} → ticks ≡ pos (place_at s i).deadline -ℤ pos s.now → MarginTold s i (record { answer = Went; ticks = ticks })
+      pub margin-told : {ticks : ℤ} → ticks ≡ pos (place_at s i).deadline -ℤ pos s.now → MarginTold s i (Ok ticks)
       unfolding margin model
       margin-told e =
           let n : 0 ≡ first (margin_rows s i) = past_2 s i [] h inside refl in

@@ -1,68 +1,48 @@
-// A fresh state, and what can be asked of any state without a tick: who is active, and how far ahead a deadline lies.
+// A fresh state, the one of a refusal, and what can be asked of any state without a tick: who is active, and how far ahead a deadline lies.
 #![tactic(auto)]
 
-ghost use Rattle.rules.specs.Calls.{Freshened, ActiveTold, MarginTold};
+ghost use Rattle.rules.specs.Calls.{NoStateMade, Freshened, ActiveTold, MarginTold};
 
-use crate::distance::{no_margin, ticks_until};
+use crate::distance::ticks_until;
 use crate::fresh_state::started;
-use rules::{Activity, Answer, Margin, Outcome, Refusal, State, Table};
+use rules::{Activity, Refusal, State, Table};
 
 mod distance;
 mod fresh_state;
 
+// "a refused .. fresh state is all zeros"
+pub fn no_state() -> State
+    ensures { NoStateMade result }
+{
+    started(table::no_table())
+}
+
 // A fresh state of a table: tick 0, nobody active, nothing spare.
-pub fn fresh(t: Table) -> Outcome
+pub fn fresh(t: Table) -> Result<State, Refusal>
     ensures { Freshened t result }
 {
-    let answer = table::check(t);
-    let Answer::Went = answer else {
-        let none = table::no_table();
-        let state = started(none);
-        return Outcome { answer, state };
-    };
-    let state = started(t);
-    Outcome { answer, state }
+    table::check(t)?;
+    Ok(started(t))
 }
 
 // Who is active: a mask and a number.
-pub fn active(s: State) -> Activity
+pub fn active(s: State) -> Result<Activity, Refusal>
     ensures { ActiveTold s result }
 {
-    let sound = engine_sound::is_sound(s);
-    if !sound {
-        return Activity {
-            answer: Answer::Refused(Refusal::NotSound),
-            mask: 0,
-            actives: 0,
-        };
-    }
-    let t = s.table;
-    let guests = s.guests;
-    let mask = engine_choice::mask_of(guests, t.count);
+    engine_sound::tested(&s)?;
+    let mask = engine_choice::mask_of(&s.guests, s.table.count);
     let actives = engine_choice::ones_of(mask);
-    Activity {
-        answer: Answer::Went,
-        mask,
-        actives,
-    }
+    Ok(Activity { mask, actives })
 }
 
 // How far ahead a guest's deadline lies; it is below zero where the deadline has passed.
-pub fn margin(s: State, i: usize) -> Margin
+#[tactic(auto, using(crate::proofs::Answering::guests_fit))]
+pub fn margin(s: State, i: usize) -> Result<i64, Refusal>
     ensures { MarginTold s i result }
 {
-    let sound = engine_sound::is_sound(s);
-    if !sound {
-        return no_margin(Refusal::NotSound);
+    engine_sound::tested(&s)?;
+    if s.table.count <= i {
+        return Err(Refusal::NoSuchGuest);
     }
-    let t = s.table;
-    if t.count <= i {
-        return no_margin(Refusal::NoSuchGuest);
-    }
-    let g = s.guests[i];
-    let ticks = ticks_until(g.deadline, s.now);
-    Margin {
-        answer: Answer::Went,
-        ticks,
-    }
+    Ok(ticks_until(s.guests[i].deadline, s.now))
 }

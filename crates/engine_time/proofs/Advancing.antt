@@ -6,21 +6,20 @@ use Prim.Native.Nat.{ℕ, ◌+◌, ◌-◌, ◌≤◌, ◌<◌}
 use native.Mathlib.Nat.{sub_self}
 use native.Mathlib.Omega.{arith}
 use lib.Dec.{ltb}
-use lib.ListN.{length, replicate}
+use lib.ListN.{length}
+use Rattle.std.specs.Prelude.{Result, Ok, Err}
+use Rattle.std.specs.Result.{IsErrAnd}
 use borrow.Author.Tests.{le-ltb}
 use Rattle.laws.specs.Lists.{padded}
-use Rattle.rules.specs.declared.Answer.{Answer}
-use Rattle.rules.specs.declared.Answer.TheVariants.{Refused}
 use Rattle.rules.specs.declared.Refusal.{Refusal}
 use Rattle.rules.specs.declared.State.{State}
-use Rattle.rules.specs.declared.Line.{Line as LinePlace}
 use Rattle.rules.specs.declared.Walk.{Walk}
 use Rattle.rules.specs.Calls.{advance_rows}
 use Rattle.rules.specs.Limits.{last_tick, line_places}
 use Rattle.rules.specs.Lines.{Line, lines}
 use Rattle.rules.specs.Model.{Model}
 use Rattle.rules.specs.Places.{model, packed}
-use Rattle.rules.specs.Refusals.{Row, ◌gives◌, first, number_of, refusal_number}
+use Rattle.rules.specs.Refusals.{Row, ◌gives◌, first, refusal_number}
 use Rattle.rules.specs.Sound.{sound}
 use Rattle.rules.specs.Steps.{advance}
 use Rattle.rules.specs.Walks.{ticks_in, line_place, no_line, walk_lines, walk_state, walk_left, Walked}
@@ -47,22 +46,23 @@ module _ (s : State) (k : ℕ) where
     pub gives_advanced : k ≤ last_tick - s.now → 0 ≡ first (advance_rows s k)
     gives_advanced l = past_1 s rows h (given-later (ltb last_tick (s.now + k)) 7 [] (le-ltb last_tick (s.now + k) (omega (arith, in_time))) refl)
 
-  module _ {a : Answer} (e : number_of a ≡ first (advance_rows s k)) where
-    module _ (r : Refusal) (f : a ≡ Refused r) where
-      abbrev number : refusal_number r ≡ first (advance_rows s k)
-      number = sym (ap number_of f) ∙ e
+  module _ {r : Refusal} (e : refusal_number r ≡ first (advance_rows s k)) where
+    walk_refused : Walked s k (Err r)
+    unfolding walk_lines walk_state walk_left
+    walk_refused =
+        let none : [] ≡ walk_lines k s = told_nothing (lines line_places k) [] s (advance_rows s k) r e in
+        record {
+          answer = e;
+          state = told_nothing _ s s (advance_rows s k) r e;
+          left = told_nothing _ 0 s (advance_rows s k) r e;
+          shown = ap length none;
+          lines = ap (λ (l : List Line). padded line_places no_line (map line_place l)) none;
+        }
 
-      pub walk_refused : {qs : List LinePlace} → qs ≡ replicate line_places no_line → Walked s k (record { answer = a; state = s; left = 0; shown = 0; lines = qs })
-      unfolding walk_lines walk_state walk_left
-      walk_refused g =
-          let none : [] ≡ walk_lines k s = told_nothing (lines line_places k) [] s (advance_rows s k) r number in
-          record {
-            answer = e;
-            state = told_nothing _ s s (advance_rows s k) r number;
-            left = told_nothing _ 0 s (advance_rows s k) r number;
-            shown = ap length none;
-            lines = g ∙ ap (λ (l : List Line). padded line_places no_line (map line_place l)) none;
-          }
+  -- a refusal handed on
+  pub walk_refused_by : (r : Refusal) → refusal_number r ≡ first (advance_rows s k) → (w : Result Walk Refusal) → IsErrAnd w (λ x. x ≡ r) → Walked s k w
+  walk_refused_by r e (Ok w) h = absurd h
+  walk_refused_by r e (Err x) h = walk_refused (ap refusal_number h ∙ e)
 
 -- ---- between two walks
 
@@ -97,7 +97,7 @@ module _ (s : State) (k : ℕ) (h : sound s ≡ true) (time : s.now + k ≤ last
     here : model state ≡ made
     here = ap model g.so ∙ model-packed made
 
-    module _ {w : Walk} (r : Walked state left w) where
+    module _ {w : Walk} (r : Walked state left (Ok w)) where
       abbrev n : ℕ
       n = ticks_in line_places left made
 

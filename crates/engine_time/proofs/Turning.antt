@@ -10,6 +10,7 @@ use lib.Dec.{ltb}
 use lib.ListN.{length, get_or, take, drop, set, replicate, length-map, length-append, length-set, get_or-map}
 use lib.Seq.{map-set_same, slice, slice-cons, slice_empty, length-slice, drop-drop}
 use borrow.Author.Tests.{ltb-true, ltb-false, lt-ltb}
+use Rattle.std.specs.Prelude.{Option, Ok}
 use Rattle.laws.specs.Lists.{total, changed, padded}
 use Rattle.laws.proofs.Cases.{and_both, and_second, by_ltb}
 use Rattle.laws.proofs.Elements.{All, none, each, all_at, all_map, all_imp, map_changed, map_same, total_map}
@@ -123,9 +124,17 @@ earliest_in n gs {guests} e l =
     ∙ ap (λ (ps : List GuestPlace). earliest 0 (map shown ps)) (take_padded guest_places no_guest_place n (map guest_place gs) (length-map gs guest_place ∙ l))
     ∙ earliest-placed 0 gs
 
+-- no spare but the first is looked at
 portion_first : (q : Pick) (x : Spare) (ss : List Spare) → portion_for q (x ∷ []) ≡ portion_for q (x ∷ ss)
 portion_first nobody (spare d owner c) ss = refl
 portion_first (picked i d c) (spare e owner b) ss = refl
+
+portion_one : (q : Pick) (ss : List SparePlace) → portion_for q (map spare_of (take 1 ss)) ≡ portion_for q (map spare_of ss)
+portion_one q [] = refl
+portion_one q (x ∷ ss) = portion_first q (spare_of x) (map spare_of ss)
+
+pub portion_in : (ss : List SparePlace) (first : Option SparePlace) → first_of first ≡ map spare_of (take 1 ss) → (q : Pick) → portion_for q (first_of first) ≡ portion_for q (map spare_of ss)
+portion_in ss first e q = ap (portion_for q) e ∙ portion_one q ss
 
 map-set : {A B : Type 0} (f : A → B) (xs : List A) (i : ℕ) (x : A) → map f (set xs i x) ≡ set (map f xs) i (f x)
 map-set f [] i x = refl
@@ -154,12 +163,6 @@ module _ (ss : List SparePlace) (head count at : ℕ) (few : count ≤ spare_pla
 
   first_none : count ≤ head → map spare_of (slice head count ss) ≡ []
   first_none h = let e : head ≡ count = omega arith in rw (e, slice_empty count ss)
-
-  pub portion_in : (q : Pick) → portion_for q (first_of (ltb head count) X) ≡ portion_for q (map spare_of (slice head count ss))
-  portion_in q =
-      by_ltb (λ t. portion_for q (first_of t X) ≡ portion_for q (map spare_of (slice head count ss))) head count
-      (λ h. portion_first q (spare_of X) _ ∙ ap (portion_for q) (sym (first-cons h)))
-      (λ h. ap (portion_for q) (sym (first_none h)))
 
   module _ (c : Charge) (fits : c.spent ≤ capacity_of (spare_at 0 (map spare_of (slice head count ss)))) (fewer : c.removed ≤ length (map spare_of (slice head count ss))) where
     pub spent_in : c.spent ≤ X.capacity
@@ -322,11 +325,11 @@ module _ (s : State) (k from : ℕ) (h : sound s ≡ true) (time : s.now + k ≤
   begun_ready zero f = absurd (omega arith)
   begun_ready (suc n) f = ap (λ (gs : List Guest). but (renewed (model s)) gs (renewed (model s)).spares) (settled_one 0 (settled (model s) (sane_model s h)))
 
-  pub walking_start : {ps : List GuestPlace} {qs : List LinePlace} {c : Clock} {more : Bool} → c ≡ started_at s k → ps ≡ placed (begun_from k (model s)).guests → (lowest : ℕ) → lowest ≡ count_trailing_zeros 32 (mask_of (in_use s.table.count ps)) → (lowest < s.table.count → from ≡ lowest) × (s.table.count ≤ lowest → from ≡ 0) → qs ≡ replicate line_places no_line
-      → more ≡ ltb 0 k && ltb 0 line_places → Walking s k from (map due_at ps) ps s.spares qs c 0 more
+  pub walking_start : {ps : List GuestPlace} {qs : List LinePlace} {c : Clock} → c ≡ started_at s k → ps ≡ placed (begun_from k (model s)).guests → (lowest : ℕ) → lowest ≡ count_trailing_zeros 32 (mask_of (in_use s.table.count ps)) → (lowest < s.table.count → from ≡ lowest) × (s.table.count ≤ lowest → from ≡ 0) → qs ≡ replicate line_places no_line
+      → Walking s k from (map due_at ps) ps s.spares qs c 0 (ltb 0 c.left && ltb 0 line_places)
   unfolding ticks_in lines advance
-  walking_start {ps} {qs} {c} {more} ec e lowest el es f g =
-      subst (λ (c : Clock). Walking s k from (map due_at ps) ps s.spares qs c 0 more) (sym ec)
+  walking_start {ps} {qs} {c} ec e lowest el es f =
+      subst (λ (c : Clock). Walking s k from (map due_at ps) ps s.spares qs c 0 (ltb 0 c.left && ltb 0 line_places)) (sym ec)
       (record {
         x = begun_from k (model s);
         shows = begun_shows k e;
@@ -342,7 +345,7 @@ module _ (s : State) (k from : ℕ) (h : sound s ≡ true) (time : s.now + k ≤
         few = omega arith;
         noted = f;
         counted = refl;
-        goes = g;
+        goes = refl;
       })
 
   -- ---- one portion
@@ -423,14 +426,13 @@ module _ (s : State) (k from : ℕ) (h : sound s ≡ true) (time : s.now + k ≤
             ∙ w.first (in_use n gs₁) (mask_in n R.guests turn_renewed count_shown ∙ same_active) (in_use_few 32 n gs₁ guest_places long_here (omega arith))
             ∙ earliest_in n R.guests turn_renewed count_shown
 
-        module _ (next : DeclaredPortion) (en : portion_of next ≡ portion_for q (first_of (ltb c.head s.listed) Y)) where
+        module _ (next : DeclaredPortion) (en : portion_of next ≡ portion_for q (map spare_of (slice c.head s.listed ss))) where
           -- it is what the rules ask
           turn_next : portion_of next ≡ ask M
           unfolding ask Steps.next
           turn_next =
               en
-              ∙ ap (λ (q : Pick). portion_for q (first_of (ltb c.head s.listed) Y)) chosen
-              ∙ portion_in ss c.head s.listed at few long ea w.shows.head (earliest 0 R.guests)
+              ∙ ap (λ (q : Pick). portion_for q (map spare_of (slice c.head s.listed ss))) chosen
               ∙ ap (portion_for (earliest 0 R.guests)) spares_shown
 
           module _ {g : Charge} (eg : g ≡ charge_of c.left c.last next) where
@@ -566,6 +568,11 @@ module _ (s : State) (k from : ℕ) (h : sound s ≡ true) (time : s.now + k ≤
             pub turn : Turned s k from ds ps ss qs c count r due at next g
             turn = record { inside = turn_inside; ran = turn_ran; spent = turn_spent; now = turn_now; later = turn_later; more = turn_more }
 
+  -- the first spare that is not spent stands among those listed
+  pub head_listed : {ds : List ℕ} {ps : List GuestPlace} {ss : List SparePlace} {qs : List LinePlace} {c : Clock} {count : ℕ} {more : Bool} → Walking s k from ds ps ss qs c count more
+      → (c.head ≤ s.listed) × (s.listed ≤ spare_places)
+  head_listed w = (w.shows.head, (points s h).few)
+
   -- what the loop's bounds need of it
   pub bounds : {ds : List ℕ} {ps : List GuestPlace} {ss : List SparePlace} {qs : List LinePlace} {c : Clock} {count : ℕ} {more : Bool} → Walking s k from ds ps ss qs c count more
       → (s.table.count ≤ guest_places) × (c.last < s.table.count) × (count ≤ line_places) × Walking s k from ds ps ss qs c count more
@@ -577,9 +584,6 @@ module _ (s : State) (k from : ℕ) (h : sound s ≡ true) (time : s.now + k ≤
     may : MayAdvance s k
     unfolding model
     may = record { whole = h; time = time }
-
-    pub last_head : (c.head ≤ s.listed) × (s.listed ≤ spare_places)
-    last_head = (w.shows.head, (points s h).few)
 
     -- nothing is left, or no place
     over : 0 < c.left → line_places ≤ count
@@ -611,10 +615,10 @@ module _ (s : State) (k from : ℕ) (h : sound s ≡ true) (time : s.now + k ≤
         λ j. record { table = s.table; now = v.now j; guests = v.guests j; listed = count j; spares = spares j; burned = v.burned j; empty = v.empty j } in
         fields ∙ sym (packed_fields s h x v.frame v.entries)
 
-    pub walking_end : {r : Walk} → r ≡ walk_of s ps ss qs c count → Walked s k r
+    pub walking_end : {r : Walk} → r ≡ walk_of s ps ss qs c count → Walked s k (Ok r)
     walking_end e =
         let there : w.x ≡ advance (ticks_in line_places k (model s)) (model s) = w.exact (λ l. omega (arith, over l)) ∙ ap (λ (n : ℕ). advance n (model s)) (sym last_ticks) in
-        subst (Walked s k) (sym e)
+        subst (λ (r : Walk). Walked s k (Ok r)) (sym e)
         (record {
           answer = sym (advance_allowed s k may);
           state = last_state ∙ ap packed there ∙ sym (walk_state_lem s k may);

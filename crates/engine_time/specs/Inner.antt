@@ -4,7 +4,6 @@ use Rattle.std.proofs.Math.Seq.{slice}
 use Rattle.laws.specs.Lists.{padded}
 use Rattle.rules.specs.declared.Guest.{Guest as GuestPlace}
 use Rattle.rules.specs.declared.Spare.{Spare as SparePlace}
-use Rattle.rules.specs.declared.Answer.TheVariants.{Went}
 use Rattle.rules.specs.declared.Line.{Line as LinePlace}
 use Rattle.rules.specs.declared.State.{State}
 use Rattle.rules.specs.declared.Walk.{Walk}
@@ -73,7 +72,7 @@ state_of s guests spares h =
 -- what the walk gives back
 abbrev pub walk_of : State → List GuestPlace → List SparePlace → List LinePlace → Clock → ℕ → Walk
 walk_of s guests spares lines h count =
-    record { answer = Went; state = state_of s guests spares h; left = h.left; shown = count; lines = lines }
+    record { state = state_of s guests spares h; left = h.left; shown = count; lines = lines }
 
 -- ---- deadlines as plain numbers
 

@@ -1,20 +1,20 @@
 // Time: what the next tick would do, an advance by k ticks, and a walk that shows them portion by portion.
 #![tactic(auto)]
 
-ghost use Rattle.std.specs.Prelude.{true, ◌≡◌, ◌+◌, ◌≤◌};
+ghost use Rattle.std.specs.Prelude.{◌≡◌, ◌+◌, ◌≤◌, IfOk};
 ghost use Rattle.rules.specs.Calls.{advance_rows, AskedFor, Advanced};
 ghost use Rattle.rules.specs.Limits.{last_tick};
 ghost use Rattle.rules.specs.Places.{model, packed};
 ghost use Rattle.rules.specs.Refusals.{first, number_of};
-ghost use Rattle.rules.specs.Sound.{sound};
 ghost use Rattle.rules.specs.Steps.{advance};
 ghost use Rattle.rules.specs.Walks.{Walked};
 
 use crate::dues::picked;
 use crate::renewal::guests_renewed;
-use crate::walking::{no_lines, walked};
+use crate::walking::{first_left, walked};
 use engine_choice::portion_for;
-use rules::{Answer, Asked, LAST_TICK, Outcome, Portion, Refusal, State, Walk};
+use engine_sound::Sound;
+use rules::{LAST_TICK, Portion, Refusal, State, Walk};
 
 mod charges;
 mod dues;
@@ -22,83 +22,53 @@ mod renewal;
 mod walking;
 
 // To ask changes nothing.
-pub fn ask(s: State) -> Asked
+pub fn ask(s: State) -> Result<Portion, Refusal>
     ensures { AskedFor s result }
 {
-    let sound = engine_sound::is_sound(s);
-    if !sound {
-        return Asked {
-            answer: Answer::Refused(Refusal::NotSound),
-            next: Portion::Nothing,
-        };
-    }
-    let t = s.table;
-    let guests = guests_renewed(s);
-    let pick = picked(guests, t.count);
-    let first = s.spares[0];
-    let next = portion_for(pick, first, 0 < s.listed);
-    Asked {
-        answer: Answer::Went,
-        next,
-    }
+    let sound = engine_sound::tested(&s)?;
+    let pick = picked(guests_renewed(sound), s.table.count);
+    Ok(portion_for(pick, first_left(&s.spares, 0, s.listed)))
 }
 
 // The sum of now and k is not made, because it could wrap.
-fn checked(s: State, k: u64) -> Answer
-    ensures { number_of result ≡ first (advance_rows s k) }
+fn checked(s: &State, k: u64) -> Result<Sound<'_>, Refusal>
+    ensures answer { number_of result ≡ first (advance_rows s.entry.now k) }
+    ensures went { IfOk result (λ x. (x.state ≡ s.entry) × (x.state.now.now + k ≤ last_tick)) }
 {
-    let sound = engine_sound::is_sound(s);
-    if !sound {
-        return Answer::Refused(Refusal::NotSound);
-    }
+    let sound = engine_sound::tested(s)?;
     if LAST_TICK - s.now < k {
-        return Answer::Refused(Refusal::EndOfTime);
+        return Err(Refusal::EndOfTime);
     }
-    Answer::Went
+    Ok(sound)
 }
 
 // Walk after walk: the soundness of each state follows from that of the first.
-fn advanced(s: State, k: u64) -> State
-    requires { (sound s ≡ true) × (s.now + k ≤ last_tick) }
-    ensures { result ≡ packed (advance k (model s)) }
+fn advanced(s: Sound<'_>, k: u64) -> State
+    requires { s.state.now.now + k ≤ last_tick }
+    ensures { result ≡ packed (advance k (model s.entry.state.now)) }
 {
-    let mut state = s;
+    let mut state = *s.state;
     let mut left = k;
     while 0 < left {
-        let w = walked(state, left);
-        let reached = w.state;
-        state = reached;
+        let w = walked(Sound { state: &state }, left);
+        state = w.state;
         left = w.left;
     }
     state
 }
 
 // k = 0 is accepted and changes nothing; past the last tick no tick is made.
-pub fn advance(s: State, k: u64) -> Outcome
+pub fn advance(s: State, k: u64) -> Result<State, Refusal>
     ensures { Advanced s k result }
 {
-    let answer = checked(s, k);
-    let Answer::Went = answer else {
-        return Outcome { answer, state: s };
-    };
-    let state = advanced(s, k);
-    Outcome { answer, state }
+    let sound = checked(&s, k)?;
+    Ok(advanced(sound, k))
 }
 
 // At most as many portions as there are places for lines; the ticks behind them are left.
-pub fn walk(s: State, k: u64) -> Walk
+pub fn walk(s: State, k: u64) -> Result<Walk, Refusal>
     ensures { Walked s k result }
 {
-    let answer = checked(s, k);
-    let Answer::Went = answer else {
-        let lines = no_lines();
-        return Walk {
-            answer,
-            state: s,
-            left: 0,
-            shown: 0,
-            lines,
-        };
-    };
-    walked(s, k)
+    let sound = checked(&s, k)?;
+    Ok(walked(sound, k))
 }

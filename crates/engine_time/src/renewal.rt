@@ -1,20 +1,17 @@
 // Step 1 of a tick: an active guest with no budget left is renewed.
-ghost use Rattle.std.specs.Prelude.{true, ◌≡◌, ◌+◌, ◌<◌, ◌^◌};
+ghost use Rattle.std.specs.Prelude.{◌≡◌, ◌+◌, ◌<◌, ◌^◌};
 ghost use Rattle.rules.specs.Places.{guest_of, guest_place, model};
-ghost use Rattle.rules.specs.Sound.{sound};
 ghost use Rattle.rules.specs.Steps.{renew, renewed};
 ghost use Rattle.engine_time.specs.Inner.{placed};
 
-use rules::{Entry, GUEST_PLACES, Guest, State};
+use engine_sound::Sound;
+use rules::{Entry, GUEST_PLACES, Guest};
 
 pub(crate) fn renewed(e: Entry, g: Guest) -> Guest
     requires { g.deadline + e.period < 2 ^ 64 }
     ensures { result ≡ guest_place (renew (guest_of e g)) }
 {
-    if g.jobs == 0 {
-        return g;
-    }
-    if g.current != 0 {
+    if g.jobs == 0 || g.current != 0 {
         return g;
     }
     Guest {
@@ -24,21 +21,13 @@ pub(crate) fn renewed(e: Entry, g: Guest) -> Guest
     }
 }
 
-pub(crate) fn guests_renewed(s: State) -> [Guest; GUEST_PLACES]
-    requires { sound s ≡ true }
-    ensures { result ≡ placed (renewed (model s)).guests }
+pub(crate) fn guests_renewed(s: Sound<'_>) -> [Guest; GUEST_PLACES]
+    ensures { result ≡ placed (renewed (model s.entry.state.now)).guests }
 {
-    let t = s.table;
-    let entries = t.entries;
-    let before = s.guests;
-    let mut guests = before;
-    let mut i: usize = 0;
-    while i < t.count {
-        let e = entries[i];
-        let g = before[i];
-        let r = renewed(e, g);
-        guests[i] = r;
-        i = i + 1;
+    let s = s.state;
+    let mut guests = s.guests;
+    for i in 0..s.table.count {
+        guests[i] = renewed(s.table.entries[i], s.guests[i]);
     }
     guests
 }

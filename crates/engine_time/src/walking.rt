@@ -1,22 +1,23 @@
 // Walking portion by portion: renew, choose, charge so many ticks at once, and note the portion.
-ghost use Rattle.std.specs.Prelude.{true, ◌&&◌, ◌≡◌, ◌+◌, ◌≤◌, ◌<◌, ◌^◌, ltb, replicate};
+ghost use Rattle.std.specs.Prelude.{◌&&◌, ◌≡◌, ◌+◌, ◌≤◌, ◌<◌, ◌^◌, ltb, map, replicate, take};
 ghost use Rattle.std.proofs.Math.Seq.{slice};
 ghost use Rattle.laws.specs.Lists.{padded};
 ghost use Rattle.rules.specs.Calls.{portion_of};
 ghost use Rattle.rules.specs.Limits.{spare_places, line_places, last_tick};
 ghost use Rattle.rules.specs.Lines.{line};
-ghost use Rattle.rules.specs.Places.{model, no_spare_place};
-ghost use Rattle.rules.specs.Sound.{sound};
+ghost use Rattle.rules.specs.Places.{model, spare_of, no_spare_place};
 ghost use Rattle.rules.specs.Steps.{use_of};
 ghost use Rattle.rules.specs.Walks.{declared_use, line_place, no_line, Walked};
+ghost use Rattle.engine_choice.specs.Clauses.{first_of};
 ghost use Rattle.engine_time.specs.Inner.{placed, begun_from, started_at, later_by, walk_of};
 
 use crate::charges::{ran, spent};
 use crate::dues::{due_of, dues_of, soonest, start_of};
 use crate::renewal::{guests_renewed, renewed};
 use engine_choice::{Charge, charge_of, portion_for};
+use engine_sound::Sound;
 use rules::{
-    Answer, GUEST_PLACES, Guest, LINE_PLACES, Line, Portion, SPARE_PLACES, Spare, State, Use, Walk,
+    GUEST_PLACES, Guest, LINE_PLACES, Line, Portion, SPARE_PLACES, Spare, State, Use, Walk,
 };
 
 // Where a walk stands: the tick, the ticks left, the processor's tallies, how many spares are spent, and who ran last.
@@ -31,24 +32,32 @@ pub(crate) struct Clock {
 }
 
 // No tick, no renewal.
-fn begun(s: State, k: u64) -> [Guest; GUEST_PLACES]
-    requires { sound s ≡ true }
-    ensures { result ≡ placed (begun_from k (model s)).guests }
+fn begun(s: Sound<'_>, k: u64) -> [Guest; GUEST_PLACES]
+    ensures { result ≡ placed (begun_from k (model s.entry.state.now)).guests }
 {
     if k == 0 {
-        return s.guests;
+        return s.state.guests;
     }
     guests_renewed(s)
 }
 
-// The place of the first spare that is not spent, or any place where all are.
+// The first spare that is not spent, where there is one.
+pub(crate) fn first_left(
+    spares: &[Spare; SPARE_PLACES],
+    head: usize,
+    listed: usize,
+) -> Option<Spare>
+    requires { (head ≤ listed) × (listed ≤ spare_places) }
+    ensures { first_of result ≡ map spare_of (take 1 (slice head listed spares.now)) }
+{
+    spares[head..listed].first().copied()
+}
+
+// Its place, or any place where all are spent: what is stored there is then what stood there.
 fn spare_place(head: usize) -> usize
     ensures { (result < spare_places) × (head < spare_places → result ≡ head) }
 {
-    if head < SPARE_PLACES {
-        return head;
-    }
-    0
+    if head < SPARE_PLACES { head } else { 0 }
 }
 
 fn later(h: Clock, c: Charge) -> Clock
@@ -78,32 +87,20 @@ fn used_by(portion: Portion) -> Use
 fn goes_on(left: u64, shown: usize) -> bool
     ensures { result ≡ ltb 0 left && ltb shown line_places }
 {
-    let more = 0 < left;
-    let room = shown < LINE_PLACES;
-    more & room
+    0 < left && shown < LINE_PLACES
 }
 
 // The spares from the first that is not spent, moved to the front.
-fn spares_left(spares: [Spare; SPARE_PLACES], head: usize, listed: usize) -> [Spare; SPARE_PLACES]
+fn spares_left(spares: &[Spare; SPARE_PLACES], head: usize, listed: usize) -> [Spare; SPARE_PLACES]
     requires { (head ≤ listed) × (listed ≤ spare_places) }
-    ensures { result ≡ padded spare_places no_spare_place (slice head listed spares) }
+    ensures { result ≡ padded spare_places no_spare_place (slice head listed spares.now) }
 {
-    let none = Spare {
-        deadline: 0,
-        owner: 0,
-        capacity: 0,
-    };
-    let mut left = [none; SPARE_PLACES];
-    let mut i = head;
-    while i < listed {
-        let x = spares[i];
-        left[i - head] = x;
-        i = i + 1;
-    }
+    let mut left = [Spare::default(); SPARE_PLACES];
+    left[..listed - head].copy_from_slice(&spares[head..listed]);
     left
 }
 
-pub(crate) fn no_lines() -> [Line; LINE_PLACES]
+fn no_lines() -> [Line; LINE_PLACES]
     ensures { result ≡ replicate line_places no_line }
 {
     let none = Line {
@@ -118,11 +115,10 @@ fn line_of(portion: Portion, first: u64, ticks: u64) -> Line
     requires { first + ticks < 2 ^ 64 }
     ensures { result ≡ line_place (line first (first + ticks) (use_of (portion_of portion))) }
 {
-    let used = used_by(portion);
     Line {
         first,
         end: first + ticks,
-        used,
+        used: used_by(portion),
     }
 }
 
@@ -151,63 +147,51 @@ fn walk_of(
     requires { (h.head ≤ s.listed) × (s.listed ≤ spare_places) }
     ensures { result ≡ walk_of s guests spares lines h shown }
 {
-    let rest = spares_left(spares, h.head, s.listed);
     let state = State {
         now: h.now,
         guests,
         listed: s.listed - h.head,
-        spares: rest,
+        spares: spares_left(&spares, h.head, s.listed),
         burned: h.burned,
         empty: h.empty,
         ..s
     };
     Walk {
-        answer: Answer::Went,
         state,
         left: h.left,
-        shown: shown,
+        shown,
         lines,
     }
 }
 
 // Soundness is not tested here, so that an advance of many walks tests it once. Who is active does not change on the way, so the lowest
 // active guest is found once.
-pub(crate) fn walked(s: State, k: u64) -> Walk
-    requires { (sound s ≡ true) × (s.now + k ≤ last_tick) }
-    ensures { Walked s k result }
+pub(crate) fn walked(s: Sound<'_>, k: u64) -> Walk
+    requires { s.state.now.now + k ≤ last_tick }
+    ensures { Walked s.entry.state.now k (Ok result) }
 {
-    let t = s.table;
-    let entries = t.entries;
     let mut guests = begun(s, k);
-    let from = start_of(engine_choice::lowest(guests, t.count), t.count);
+    let s = s.state;
+    let from = start_of(engine_choice::lowest(guests, s.table.count), s.table.count);
     let mut dues = dues_of(guests);
     let mut spares = s.spares;
     let mut lines = no_lines();
-    let mut h = started(s, k);
-    let mut shown: usize = 0;
-    let mut more = goes_on(k, shown);
-    while more {
-        let last = h.last;
-        let e = entries[last];
-        let g = guests[last];
-        let r = renewed(e, g);
-        guests[last] = r;
-        dues[last] = due_of(r);
-        let soon = soonest(&dues, from, t.count);
-        let f = guests[soon];
-        let pick = engine_choice::ready(soon, f);
+    let mut h = started(*s, k);
+    let mut shown = 0;
+    while goes_on(h.left, shown) {
+        let r = renewed(s.table.entries[h.last], guests[h.last]);
+        guests[h.last] = r;
+        dues[h.last] = due_of(r);
+        let soon = soonest(&dues, from, s.table.count);
+        let pick = engine_choice::ready(soon, guests[soon]);
         let at = spare_place(h.head);
-        let x = spares[at];
-        let portion = portion_for(pick, x, h.head < s.listed);
-        let c = charge_of(portion, h.left, last);
-        let i = c.guest;
-        let b = guests[i];
-        guests[i] = ran(b, c);
-        spares[at] = spent(x, c);
+        let portion = portion_for(pick, first_left(&spares, h.head, s.listed));
+        let c = charge_of(portion, h.left, h.last);
+        guests[c.guest] = ran(guests[c.guest], c);
+        spares[at] = spent(spares[at], c);
         lines[shown] = line_of(portion, h.now, c.ticks);
         h = later(h, c);
-        shown = shown + 1;
-        more = goes_on(h.left, shown);
+        shown += 1;
     }
-    walk_of(s, guests, spares, lines, h, shown)
+    walk_of(*s, guests, spares, lines, h, shown)
 }

@@ -4,19 +4,16 @@ use borrow.Author.Rules.{rules}
 use Rattle.engine_time.proofs.advanced.Goals as goal
 
 pub loop-left-init : goal.loop-left-init
-loop-left-init c = going_start _ _ c.requires.0 c.requires.1
+loop-left-init c = going_start _ _ c.args.s.sound c.requires
+
+pub invariant_of-walked : goal.invariant_of-walked
+invariant_of-walked c = let a = c.args in record { sound = (going_may a.s.state.now a.k a.s.sound c.requires c.loop-left.invariant).0 }
 
 pub walked-w-requires : goal.walked-w-requires
-walked-w-requires c = let a = c in going_may a.args.s a.args.k a.requires.0 a.requires.1 c.loop-left.invariant
+walked-w-requires c = let a = c.args in (going_may a.s.state.now a.k a.s.sound c.requires c.loop-left.invariant).1
 
 pub loop-left-smaller : goal.loop-left-smaller
-loop-left-smaller c =
-    let l = c in
-    let a = l in
-    going_less a.args.s a.args.k a.requires.0 a.requires.1 l.loop-left.invariant c.walked-w.ensures (search rules)
+loop-left-smaller c = let a = c.args in going_less a.s.state.now a.k a.s.sound c.requires c.loop-left.invariant c.walked-w.ensures (search rules)
 
 pub loop-left-preserved : goal.loop-left-preserved
-loop-left-preserved c =
-    let l = c in
-    let a = l in
-    going_more a.args.s a.args.k a.requires.0 a.requires.1 l.loop-left.invariant c.walked-w.ensures
+loop-left-preserved c = let a = c.args in going_more a.s.state.now a.k a.s.sound c.requires c.loop-left.invariant c.walked-w.ensures

@@ -1,11 +1,8 @@
 -- `engine_time::ask` meets its contract: it says what the rules would do next.
-use mathlib.Core.Path.{◌≡◌, sym, ◌∙◌}
-use mathlib.Core.Bool.{true}
 use native.Mathlib.Omega.{arith}
 use Rattle.rules.specs.Places.{model}
-use Rattle.rules.specs.Sound.{sound}
 use Rattle.rules.specs.Steps.{renewed}
-use Rattle.promises.proofs.Facts.{sane_model}
+use Rattle.promises.proofs.Facts.{points, sane_model}
 use Rattle.engine_time.proofs.Asking.{ask-told, ask-next}
 use Rattle.engine_time.proofs.Placing.{table_good}
 use Rattle.engine_time.proofs.Turning.{placed_due, renewed_early}
@@ -14,11 +11,17 @@ use Rattle.engine_time.proofs.ask.Goals as goal
 pub picked-pick-requires : goal.picked-pick-requires
 picked-pick-requires c =
     let s = c.args.s in
-    let h : sound s ≡ true = sym c.is_sound-sound.ensures ∙ c.if-not-sound.false in
-    (omega (arith, (table_good s h).count_low), (table_good s h).count_high, placed_due (renewed (model s)).guests (renewed_early (model s) (sane_model s h)) c.guests_renewed-guests.ensures)
+    let same = c.in_ok-sound.ensures.state in
+    let h = rw same at c.in_ok-sound.sound.sound in
+    let t = table_good s h in
+    (omega (arith, t.count_low), t.count_high, placed_due (renewed (model s)).guests (renewed_early (model s) (sane_model s h)) (rw same at c.guests_renewed.ensures))
+
+pub first_left-requires : goal.first_left-requires
+first_left-requires c = (omega arith, (points c.args.s (rw c.in_ok-sound.ensures.state at c.in_ok-sound.sound.sound)).few)
 
 pub returns : goal.returns
 returns c =
     let s = c.args.s in
-    let h : sound s ≡ true = sym c.is_sound-sound.ensures ∙ c.if-not-sound.false in
-    ask-told s h (ask-next s h c.guests_renewed-guests.ensures c.picked-pick.ensures c.portion_for-next.ensures)
+    let same = c.in_ok-sound.ensures.state in
+    let h = rw same at c.in_ok-sound.sound.sound in
+    ask-told s h (ask-next s h c.first_left.result (rw same at c.guests_renewed.ensures) c.picked-pick.ensures c.first_left.ensures c.portion_for.ensures)

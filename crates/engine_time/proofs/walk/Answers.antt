@@ -1,9 +1,6 @@
--- `engine_time::walk` meets its contract: a refusal gives the state back with no line, and else the walk is the rules'.
-use Rattle.engine_time.proofs.Advancing.{walk_refused}
+-- `engine_time::walk` meets its contract: a refusal is handed on.
+use Rattle.engine_time.proofs.Advancing.{walk_refused_by}
 use Rattle.engine_time.proofs.walk.Goals as goal
 
-pub returns-in_default : goal.returns-in_default
-returns-in_default c =
-    let e = c in
-    let a = e in
-    walk_refused a.args.s a.args.k a.checked-answer.ensures _ c.in_default.is c.no_lines-lines.ensures
+pub returns-in_err-sound : goal.returns-in_err-sound
+returns-in_err-sound c = walk_refused_by c.args.s c.args.k _ c.in_err-sound.ensures.answer c.from_residual.result c.from_residual.ensures.1

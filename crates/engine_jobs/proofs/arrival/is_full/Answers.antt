@@ -10,8 +10,8 @@ use Rattle.engine_jobs.proofs.arrival.is_full.Goals as goal
 
 pub overflow_add-result : goal.overflow_add-result
 overflow_add-result c =
-    record { fits = omega (arith, (points c.args.s c.requires).few) }
+    record { fits = omega (arith, (points c.args.s.state.now c.args.s.sound).few) }
 
 pub returns : goal.returns
 returns c =
-    ap (λ (n : ℕ). eqb n spare_places) (occupied-told c.args.s c.requires c.mask_of-mask.ensures.0 c.ones_of-active.ensures)
+    ap (λ (n : ℕ). eqb n spare_places) (occupied-told c.args.s.state.now c.args.s.sound c.mask_of-mask.ensures.0 c.ones_of-active.ensures)

@@ -14,5 +14,5 @@ pub returns : goal.returns
 returns c =
     let gs = c.args.guests in
     c.ready.ensures
-    ∙ c.soonest-soon.ensures.1 gs (mirrors gs c.dues_of-dues.ensures c.requires.2) (search (rules, length_mapped))
+    ∙ c.soonest-soon.ensures.1 gs (mirrors gs c.dues_of.ensures c.requires.2) (search (rules, length_mapped))
     ∙ starts_first c.args.count c.lowest.result c.start_of-from.result c.start_of-from.ensures (in_use c.args.count gs) c.lowest.ensures (in_use_few 32 c.args.count gs guest_places (search (rules, length_mapped)) (omega arith))

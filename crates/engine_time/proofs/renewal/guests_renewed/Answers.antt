@@ -4,23 +4,13 @@ use borrow.Author.Rules.{rules}
 use Rattle.engine_time.proofs.renewal.guests_renewed.Goals as goal
 
 pub loop-i-init : goal.loop-i-init
-loop-i-init c =
-    let a = c in
-    (in_places a.args.s a.requires, search rules, renewing_first a.args.s a.requires)
+loop-i-init c = (in_places c.args.s.state.now c.args.s.sound, renewing_first c.args.s.state.now c.args.s.sound)
 
-pub renewed-r-requires : goal.renewed-r-requires
-renewed-r-requires c =
-    let a = c in
-    renewing_fits a.args.s a.requires (search rules)
+pub renewed-requires : goal.renewed-requires
+renewed-requires c = renewing_fits c.args.s.state.now c.args.s.sound (search rules)
 
 pub loop-i-preserved : goal.loop-i-preserved
-loop-i-preserved c =
-    let l = c in
-    let a = l in
-    (search rules, search rules, renewing_next a.args.s a.requires (search rules) l.loop-i.invariant.2 c.renewed-r.ensures)
+loop-i-preserved c = (c.loop-i.invariant.0, renewing_next c.args.s.state.now c.args.s.sound (search rules) c.loop-i.invariant.1 c.renewed.ensures)
 
 pub returns : goal.returns
-returns c =
-    let l = c in
-    let a = l in
-    renewing_last a.args.s a.requires l.loop-i.invariant.2 (search rules)
+returns c = renewing_last c.args.s.state.now c.args.s.sound c.loop-i.invariant.1 (search rules)

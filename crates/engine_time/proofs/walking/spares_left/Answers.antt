@@ -1,8 +1,9 @@
--- `walking::spares_left` meets its contract: at i the spares from the head up to i stand at the front.
-use Rattle.engine_time.proofs.Leaving.{filled_more}
-use Rattle.laws.proofs.Places.{length_mapped}
-use borrow.Author.Rules.{rules}
+-- `walking::spares_left` meets its contract: the spares from the head on stand at the front.
+use native.Mathlib.Omega.{arith}
+use Rattle.engine_time.proofs.Leaving.{left_first}
 use Rattle.engine_time.proofs.walking.spares_left.Goals as goal
 
-pub loop-i-preserved : goal.loop-i-preserved
-loop-i-preserved c = (search rules, search rules, filled_more c.loop-i.invariant.2 _ _ (search rules) (search (rules, length_mapped)) (search rules))
+pub returns : goal.returns
+returns c =
+    let d = c.default-left.ensures in
+    left_first c.args.spares.now c.args.head c.args.listed (omega arith) c.default-left.result (d.0, d.1.0, d.1.1) c.copy_from_slice.ensures.after
