@@ -3,7 +3,7 @@
 
 use rules::{LINE_PLACES, State};
 
-// What a call that changes the state gives: the number of its answer, and the state.
+// What a call that changes the state gives: the number of its answer, because C reads it, and the state, because a refused call stores one too.
 #[derive(Clone, Copy)]
 pub struct Changed {
     pub refusal: u32,

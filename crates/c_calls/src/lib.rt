@@ -1,116 +1,84 @@
 // Each call of the engine as C reads its answer: refusals and cases as numbers. The state is still handed on by value.
 #![tactic(auto)]
 
-ghost use Rattle.std.specs.Prelude.{◌≡◌, map};
+ghost use Rattle.std.specs.Prelude.{◌≡◌, map, replicate, Result};
+ghost use Rattle.std.specs.Result.{result_unwrap_or};
+ghost use Rattle.rules.specs.Limits.{line_places};
+ghost use Rattle.rules.specs.Refusals.{number_of};
+ghost use Rattle.rules.specs.Walks.{no_line};
 ghost use Rattle.c_answers.specs.Clauses.{use_numbers, next_of, line_shown, ArrivedInPlace, FinishedInPlace, AdvancedInPlace, FreshInPlace, NextTold, ActivesTold, DistanceTold, WalkedInPlace};
 
+use answer_number::number_of;
 use c_answers::{Actives, Changed, Distance, LineShown, Next, UseNumbers, WalkShown, Walked};
-use rules::{LINE_PLACES, Line, Portion, Source, State, Table, Use};
+use rules::{LINE_PLACES, Line, Portion, Refusal, Source, State, Table, Use};
+
+// The state that a call gives, or else the one of its refusal.
+fn changed(outcome: Result<State, Refusal>, refused: State) -> Changed
+    ensures refusal { result.refusal ≡ number_of outcome }
+    ensures state { result.state ≡ result_unwrap_or outcome refused }
+{
+    match outcome {
+        Ok(state) => Changed { refusal: 0, state },
+        Err(refusal) => Changed {
+            refusal: u32::from(refusal),
+            state: refused,
+        },
+    }
+}
 
 // A fresh state of a table.
 pub fn fresh(table: Table) -> Changed
     ensures { FreshInPlace table result.state result.refusal }
 {
-    let outcome = engine::fresh(table);
-    let state = outcome.state;
-    let answer = outcome.answer;
-    let refusal = answer_number::number_of(answer);
-    Changed { refusal, state }
+    changed(engine::fresh(table), engine::no_state())
 }
 
 // A job arrives at a guest.
 pub fn arrive(state: State, guest: usize) -> Changed
     ensures { ArrivedInPlace state guest result.state result.refusal }
 {
-    let outcome = engine::arrive(state, guest);
-    let state = outcome.state;
-    let answer = outcome.answer;
-    let refusal = answer_number::number_of(answer);
-    Changed { refusal, state }
+    changed(engine::arrive(state, guest), state)
 }
 
 // A guest's job is done.
 pub fn done(state: State, guest: usize) -> Changed
     ensures { FinishedInPlace state guest result.state result.refusal }
 {
-    let outcome = engine::done(state, guest);
-    let state = outcome.state;
-    let answer = outcome.answer;
-    let refusal = answer_number::number_of(answer);
-    Changed { refusal, state }
+    changed(engine::done(state, guest), state)
 }
 
 // Time goes on by so many ticks.
 pub fn advance(state: State, ticks: u64) -> Changed
     ensures { AdvancedInPlace state ticks result.state result.refusal }
 {
-    let outcome = engine::advance(state, ticks);
-    let state = outcome.state;
-    let answer = outcome.answer;
-    let refusal = answer_number::number_of(answer);
-    Changed { refusal, state }
+    changed(engine::advance(state, ticks), state)
 }
 
 fn use_numbers(used: Use) -> UseNumbers
     ensures { result ≡ use_numbers used }
 {
-    match used {
-        Use::Run(guest, source) => match source {
-            Source::Own => UseNumbers {
-                kind: 1,
-                guest,
-                owner: guest,
-            },
-            Source::SpareOf(owner) => UseNumbers {
-                kind: 2,
-                guest,
-                owner,
-            },
-        },
-        Use::Burn(owner) => UseNumbers {
-            kind: 3,
-            guest: 0,
-            owner,
-        },
-        Use::Nothing => UseNumbers {
-            kind: 0,
-            guest: 0,
-            owner: 0,
-        },
-    }
+    let (kind, guest, owner) = match used {
+        Use::Run(guest, Source::Own) => (1, guest, guest),
+        Use::Run(guest, Source::SpareOf(owner)) => (2, guest, owner),
+        Use::Burn(owner) => (3, 0, owner),
+        Use::Nothing => (0, 0, 0),
+    };
+    UseNumbers { kind, guest, owner }
 }
 
 fn next_of(refusal: u32, next: Portion) -> Next
     ensures { result ≡ next_of refusal next }
 {
-    match next {
-        Portion::Run(guest, source, deadline, span) => {
-            let used = use_numbers(Use::Run(guest, source));
-            Next {
-                refusal,
-                used,
-                deadline,
-                span,
-            }
-        }
-        Portion::Burn(owner, deadline, span) => {
-            let used = use_numbers(Use::Burn(owner));
-            Next {
-                refusal,
-                used,
-                deadline,
-                span,
-            }
-        }
-        Portion::Nothing => {
-            let used = use_numbers(Use::Nothing);
-            Next {
-                refusal,
-                used,
-                deadline: 0,
-                span: 0,
-            }
-        }
+    let (used, deadline, span) = match next {
+        Portion::Run(guest, source, deadline, span) => (Use::Run(guest, source), deadline, span),
+        Portion::Burn(owner, deadline, span) => (Use::Burn(owner), deadline, span),
+        Portion::Nothing => (Use::Nothing, 0, 0),
+    };
+    Next {
+        refusal,
+        used: use_numbers(used),
+        deadline,
+        span,
     }
 }
 
@@ -119,23 +87,19 @@ pub fn ask(state: State) -> Next
     ensures { NextTold state result }
 {
     let asked = engine::ask(state);
-    let answer = asked.answer;
-    let refusal = answer_number::number_of(answer);
-    let next = asked.next;
-    next_of(refusal, next)
+    next_of(number_of(&asked), asked.unwrap_or(Portion::Nothing))
 }
 
 // Who is active.
 pub fn active(state: State) -> Actives
     ensures { ActivesTold state result }
 {
-    let activity = engine::active(state);
-    let answer = activity.answer;
-    let refusal = answer_number::number_of(answer);
+    let told = engine::active(state);
+    let (mask, actives) = told.map_or((0, 0), |activity| (activity.mask, activity.actives));
     Actives {
-        refusal,
-        mask: activity.mask,
-        actives: activity.actives,
+        refusal: number_of(&told),
+        mask,
+        actives,
     }
 }
 
@@ -143,66 +107,73 @@ pub fn active(state: State) -> Actives
 pub fn margin(state: State, guest: usize) -> Distance
     ensures { DistanceTold state guest result }
 {
-    let m = engine::margin(state, guest);
-    let answer = m.answer;
-    let refusal = answer_number::number_of(answer);
+    let margin = engine::margin(state, guest);
     Distance {
-        refusal,
-        ticks: m.ticks,
+        refusal: number_of(&margin),
+        ticks: margin.unwrap_or(0),
     }
 }
 
 fn line_shown(line: Line) -> LineShown
     ensures { result ≡ line_shown line }
 {
-    let used = line.used;
-    let used = use_numbers(used);
     LineShown {
         first: line.first,
         end: line.end,
-        used,
+        used: use_numbers(line.used),
     }
 }
 
-fn lines_shown(lines: [Line; LINE_PLACES]) -> [LineShown; LINE_PLACES]
-    ensures { result ≡ map line_shown lines }
+// A loop and no `map`, which moves both arrays and takes some 4 KB more of stack.
+fn lines_shown(lines: &[Line; LINE_PLACES]) -> [LineShown; LINE_PLACES]
+    ensures { result ≡ map line_shown lines.now }
 {
-    let nothing = UseNumbers {
-        kind: 0,
-        guest: 0,
-        owner: 0,
-    };
-    let none = LineShown {
-        first: 0,
-        end: 0,
-        used: nothing,
-    };
-    let mut shown = [none; LINE_PLACES];
-    let mut i: usize = 0;
-    while i < LINE_PLACES {
-        let line = lines[i];
-        let s = line_shown(line);
-        shown[i] = s;
-        i = i + 1;
+    let mut shown = [nothing_shown(); LINE_PLACES];
+    for i in 0..LINE_PLACES {
+        shown[i] = line_shown(lines[i]);
     }
     shown
+}
+
+fn nothing_shown() -> LineShown
+    ensures { result ≡ line_shown no_line }
+{
+    LineShown {
+        first: 0,
+        end: 0,
+        used: use_numbers(Use::Nothing),
+    }
+}
+
+// A walk that made no tick.
+fn not_walked(refusal: u32) -> WalkShown
+    ensures { result ≡ record { refusal = refusal; left = 0; shown = 0; lines = replicate line_places (line_shown no_line) } }
+{
+    WalkShown {
+        refusal,
+        left: 0,
+        shown: 0,
+        lines: [nothing_shown(); LINE_PLACES],
+    }
 }
 
 // An advance, shown portion by portion, as many as there are places for.
 pub fn walk(state: State, ticks: u64) -> Walked
     ensures { WalkedInPlace state ticks result.state result.told }
 {
-    let w = engine::walk(state, ticks);
-    let answer = w.answer;
-    let refusal = answer_number::number_of(answer);
-    let given = w.lines;
-    let lines = lines_shown(given);
-    let told = WalkShown {
-        refusal,
-        left: w.left,
-        shown: w.shown,
-        lines,
-    };
-    let state = w.state;
-    Walked { told, state }
+    match engine::walk(state, ticks) {
+        Ok(walk) => Walked {
+            told: WalkShown {
+                refusal: 0,
+                left: walk.left,
+                shown: walk.shown,
+                lines: lines_shown(&walk.lines),
+            },
+            state: walk.state,
+        },
+        Err(refusal) => Walked {
+            told: not_walked(u32::from(refusal)),
+            state,
+        },
+    }
 }

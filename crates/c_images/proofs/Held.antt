@@ -2,7 +2,7 @@
 use mathlib.Core.Path.{refl}
 use mathlib.Core.List.{[], ◌∷◌}
 use Rattle.rules.specs.declared.Refusal.TheVariants.{UnknownEdition, BufferShort}
-use Rattle.rules.specs.declared.Answer.TheVariants.{Went, Refused}
+use Rattle.std.specs.Prelude.{Ok, Err}
 use Rattle.rules.specs.Samples.{◌by◌}
 use Rattle.rules.specs.HeldTable.{counted}
 use Rattle.rules.specs.Image.{table_in, image_of}
@@ -14,14 +14,14 @@ in_place_held =
     record {
       read =
           record {
-            loaded = record { answer = Went; table = counted 1000000 1 (66051 by 1000000 ∷ []) };
+            loaded = Ok (counted 1000000 1 (66051 by 1000000 ∷ []));
             allowed = record { answer = refl; table = refl };
             table = refl;
             number = refl;
           };
       read_refused =
           record {
-            loaded = record { answer = Refused UnknownEdition; table = counted 0 0 [] };
+            loaded = Err UnknownEdition;
             allowed = record { answer = refl; table = refl };
             table = refl;
             number = refl;
@@ -41,6 +41,6 @@ in_place_held =
             number = record { answer = refl };
           };
       entries_refused = record { bytes = []; allowed = record { place = refl; bytes = refl }; long = refl; number = record { answer = refl } };
-      wrote = record { answer = Went; allowed = record { answer = refl; content = refl }; number = refl };
-      wrote_refused = record { answer = Refused BufferShort; allowed = record { answer = refl; content = refl }; number = refl };
+      wrote = record { answer = Ok tt; allowed = record { answer = refl; content = refl }; number = refl };
+      wrote_refused = record { answer = Err BufferShort; allowed = record { answer = refl; content = refl }; number = refl };
     }

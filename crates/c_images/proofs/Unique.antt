@@ -3,6 +3,11 @@ use mathlib.Core.Path.{◌≡◌, refl, sym, ap, ◌∙◌}
 use mathlib.Core.List.{List}
 use Prim.Native.Nat.{ℕ}
 use lib.ListN.{length}
+use Rattle.std.specs.Prelude.{Result}
+use Rattle.std.specs.Result.{result_unwrap_or}
+use Rattle.rules.specs.declared.Table.{Table}
+use Rattle.rules.specs.declared.Refusal.{Refusal}
+use Rattle.rules.specs.Table.{no_table}
 use Rattle.rules.specs.Refusals.{number_of}
 use Rattle.promises.proofs.Outcomes as settled
 use Rattle.c_images.specs.declared.Part.{Part}
@@ -23,7 +28,7 @@ one_outcome =
       check = (settled.one_outcome).boot;
       read = λ image t t' n n' p q.
           let same = (settled.one_outcome).read image p.loaded q.loaded p.allowed q.allowed in
-          (p.table ∙ ap (λ l. l.table) same ∙ sym q.table, p.number ∙ ap (λ l. number_of l.answer) same ∙ sym q.number);
+          (p.table ∙ ap (λ (l : Result Table Refusal). result_unwrap_or l no_table) same ∙ sym q.table, p.number ∙ ap number_of same ∙ sym q.number);
       entries = one_part;
       write = λ t buffer x y n n' p q.
           let same = (settled.one_outcome).write t buffer p.answer q.answer x y p.allowed q.allowed in

@@ -1,18 +1,19 @@
 -- What C reads of each call on an image: some outcome that the library's own predicate allows, and its answer as a number.
-use Rattle.std.specs.Prelude.{◌≡◌, List, ℕ, length}
+use Rattle.std.specs.Prelude.{◌≡◌, List, ℕ, length, ⊤, Result}
+use Rattle.std.specs.Result.{result_unwrap_or}
 use Rattle.rules.specs.declared.Table.{Table}
-use Rattle.rules.specs.declared.Answer.{Answer}
-use Rattle.rules.specs.declared.Loaded.{Loaded}
+use Rattle.rules.specs.declared.Refusal.{Refusal}
 use Rattle.rules.specs.Refusals.{number_of}
+use Rattle.rules.specs.Table.{no_table}
 use Rattle.rules.specs.Calls.{ImageChecked, TableRead, EntriesHanded, TableWritten}
 use Rattle.c_images.specs.declared.Part.{Part}
 
 -- reading: the table that is left in its place, and the number
 pub record ReadInPlace (image : List ℕ) (after : Table) (refusal : ℕ) : Type 0 where
-  pub loaded : Loaded
+  pub loaded : Result Table Refusal
   pub allowed : TableRead image loaded
-  pub table : after ≡ loaded.table
-  pub number : refusal ≡ number_of loaded.answer
+  pub table : after ≡ result_unwrap_or loaded no_table
+  pub number : refusal ≡ number_of loaded
 
 -- "the entries as a part of the caller's own image": where the part starts there, and how long it is
 pub record EntriesPlaced (image : List ℕ) (r : Part) : Type 0 where
@@ -23,7 +24,7 @@ pub record EntriesPlaced (image : List ℕ) (r : Part) : Type 0 where
 
 -- writing: the lent buffer as it is left, and the number
 pub record WrittenInPlace (t : Table) (before after : List ℕ) (refusal : ℕ) : Type 0 where
-  pub answer : Answer
+  pub answer : Result ⊤ Refusal
   pub allowed : TableWritten t before answer after
   pub number : refusal ≡ number_of answer
 

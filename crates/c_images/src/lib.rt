@@ -5,10 +5,11 @@
 ghost use Rattle.rules.specs.Calls.{ImageChecked};
 ghost use Rattle.c_images.specs.Clauses.{ReadInPlace, EntriesPlaced, WrittenInPlace};
 
+use answer_number::number_of;
 use image_reader::read_trailer;
-use rules::{Answer, Table};
+use rules::Table;
 
-// What reading an image gives: the number of its answer, and the table.
+// What reading an image gives: the number of its answer, because C reads it, and the table, because a refused image stores one too.
 #[derive(Clone, Copy)]
 pub struct Reading {
     pub refusal: u32,
@@ -28,9 +29,7 @@ pub struct Part {
 pub fn check(image: &[u8]) -> u32
     ensures { ImageChecked image.now result }
 {
-    let loaded = image::read(image);
-    let answer = loaded.answer;
-    answer_number::number_of(answer)
+    number_of(&image::read(image))
 }
 
 // The table of an image, or one of zeros where it is refused.
@@ -38,33 +37,30 @@ pub fn read(image: &[u8]) -> Reading
     ensures { ReadInPlace image.now result.table result.refusal }
 {
     let loaded = image::read(image);
-    let table = loaded.table;
-    let answer = loaded.answer;
-    let refusal = answer_number::number_of(answer);
-    Reading { refusal, table }
+    Reading {
+        refusal: number_of(&loaded),
+        table: loaded.unwrap_or(table::no_table()),
+    }
 }
 
 // Where the entries lie, between the offset and the trailer.
 pub fn entries(image: &[u8]) -> Part
     ensures { EntriesPlaced image.now result }
 {
-    let loaded = image::read(image);
-    let answer = loaded.answer;
-    let refusal = answer_number::number_of(answer);
-    let Answer::Went = answer else {
-        return Part {
-            refusal,
+    match image::read(image) {
+        Ok(_) => {
+            let offset = read_trailer(image).offset;
+            Part {
+                refusal: 0,
+                offset,
+                length: image.len() - 12 - offset,
+            }
+        }
+        Err(refusal) => Part {
+            refusal: u32::from(refusal),
             offset: 0,
             length: 0,
-        };
-    };
-    let trailer = read_trailer(image);
-    let offset = trailer.offset;
-    let length = image.len() - 12 - offset;
-    Part {
-        refusal,
-        offset,
-        length,
+        },
     }
 }
 
@@ -72,6 +68,5 @@ pub fn entries(image: &[u8]) -> Part
 pub fn write(table: Table, buffer: &mut [u8]) -> u32
     ensures { WrittenInPlace table buffer.old buffer.new result }
 {
-    let written = image::write(table, buffer);
-    answer_number::number_of(written)
+    number_of(&image::write(table, buffer))
 }

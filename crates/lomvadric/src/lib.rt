@@ -1,5 +1,5 @@
-// The library as C calls it: states, tables and bytes behind pointers, answers as numbers. Each function only fetches what stands there, has `c_calls` or
-// `c_images` do its work by value, and stores what comes of it.
+// The library as C calls it: states, tables and bytes behind pointers, answers as numbers. Each function has `c_calls` or `c_images` do its work by
+// value. A form of `c_pointers` fetches what stands there and stores what comes of it, but where a state is changed: there the form takes up to 8 KB more of stack.
 #![tactic(auto)]
 
 ghost use Rattle.rules.specs.Calls.{ImageChecked};
@@ -8,6 +8,7 @@ ghost use Rattle.c_images.specs.Clauses.{ReadInPlace, EntriesPlaced, WrittenInPl
 
 use c_answers::{Actives, Distance, Next, WalkShown};
 use c_images::Part;
+use c_pointers::{asking, asking_of, loading, starting, storing};
 use rules::{State, Table};
 
 // A fresh state of a table, into the caller's place; all zeros after a refusal.
@@ -15,9 +16,7 @@ use rules::{State, Table};
 pub extern "C" fn lomvadric_fresh(state: &mut State, table: &Table) -> u32
     ensures { FreshInPlace table.now state.new result }
 {
-    let started = c_calls::fresh(*table);
-    *state = started.state;
-    started.refusal
+    starting(c_calls::fresh, state, table)
 }
 
 // A job arrives at a guest. A refusal stores the state as it was, and so do those of `lomvadric_done` and `lomvadric_advance`.
@@ -65,7 +64,7 @@ pub extern "C" fn lomvadric_walk(state: &mut State, ticks: u64) -> WalkShown
 pub extern "C" fn lomvadric_ask(state: &State) -> Next
     ensures { NextTold state.entry.now result }
 {
-    c_calls::ask(*state)
+    asking(c_calls::ask, state)
 }
 
 // Who is active; nobody after a refusal.
@@ -73,7 +72,7 @@ pub extern "C" fn lomvadric_ask(state: &State) -> Next
 pub extern "C" fn lomvadric_active(state: &State) -> Actives
     ensures { ActivesTold state.entry.now result }
 {
-    c_calls::active(*state)
+    asking(c_calls::active, state)
 }
 
 // How far ahead a guest's deadline lies; below zero where it has passed, and 0 after a refusal.
@@ -81,7 +80,7 @@ pub extern "C" fn lomvadric_active(state: &State) -> Actives
 pub extern "C" fn lomvadric_margin(state: &State, guest: usize) -> Distance
     ensures { DistanceTold state.entry.now guest result }
 {
-    c_calls::margin(*state, guest)
+    asking_of(c_calls::margin, state, guest)
 }
 
 // 0, or the smallest number of refusal, for every image, one of no bytes included.
@@ -97,9 +96,7 @@ pub extern "C" fn lomvadric_check_image(image: &[u8]) -> u32
 pub extern "C" fn lomvadric_read_image(table: &mut Table, image: &[u8]) -> u32
     ensures { ReadInPlace image.now table.new result }
 {
-    let reading = c_images::read(image);
-    *table = reading.table;
-    reading.refusal
+    loading(c_images::read, table, image)
 }
 
 // Where the entries lie in the caller's own image.
@@ -115,5 +112,5 @@ pub extern "C" fn lomvadric_entries(image: &[u8]) -> Part
 pub extern "C" fn lomvadric_write_image(table: &Table, buffer: &mut [u8]) -> u32
     ensures { WrittenInPlace table.now buffer.old buffer.new result }
 {
-    c_images::write(*table, buffer)
+    storing(c_images::write, table, buffer)
 }

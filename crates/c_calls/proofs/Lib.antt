@@ -1,0 +1,2 @@
+-- Laws of what C reads.
+pub mod Filling
