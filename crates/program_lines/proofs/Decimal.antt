@@ -1,33 +1,28 @@
 -- Numbers in decimal: what the loops that count and store the digits know.
 use mathlib.Core.Path.{◌≡◌, refl, sym, ap, ◌∙◌}
 use mathlib.Core.List.{List, [], ◌∷◌, ◌++◌, append_assoc, append-nil}
-use Prim.Native.Nat.{ℕ, suc, ◌+◌, ◌-◌, ◌/◌, ◌%◌, ◌≤◌, ◌<◌}
+use Prim.Native.Nat.{ℕ, zero, suc, ◌+◌, ◌-◌, ◌*◌, ◌/◌, ◌%◌, ◌^◌, ◌≤◌, ◌<◌, max}
+use native.Mathlib.Nat.{pow-suc, pow-le-pow_right}
 use native.Mathlib.Omega.{arith}
 use lib.ListN.{set}
 use lib.Seq.{sets}
 use Rattle.laws.proofs.Parts.{stored_before}
 use Rattle.program_text.specs.Decimal.{last_digits, digit_count, decimal}
-use Rattle.program_text.proofs.Decimal.{count_small, count_some, count_tenth}
+use Rattle.program_text.proofs.Decimal.{count_small, count_tenth}
 
 -- ---- counting them
 
--- the digits of n from its last to the last of `of` are counted, and rest has those before them
-pub record Counted (n count rest : ℕ) : Type 0 where
-  pub of : ℕ
-  pub before : rest ≡ of / 10
-  pub so : count + digit_count of ≡ suc (digit_count n)
+-- one more than the logarithm, of which 0 has none
+count_log : (log n : ℕ) → 10 ^ log ≤ n → n < 10 ^ suc log → digit_count n ≡ suc log
+count_log zero n h k = count_small n (omega (arith, pow-suc 10 zero))
+count_log (suc log) n h k =
+    count_tenth n (omega (arith, pow-suc 10 log, pow-le-pow_right {n = 10} (omega arith) {i = 0} {j = log} (omega arith)))
+    ∙ ap suc (count_log log (n / 10) (omega (arith, pow-suc 10 log)) (omega (arith, pow-suc 10 (suc log))))
 
-module _ {n count rest : ℕ} (c : Counted n count rest) where
-  pub counted_few : count ≤ digit_count n
-  counted_few = omega (arith, c.so, count_some c.of)
-
-  pub counted_more : 0 < rest → Counted n (count + 1) (rest / 10)
-  counted_more h =
-      let tenth : digit_count c.of ≡ suc (digit_count rest) = rw c.before (count_tenth c.of (omega (arith, c.before))) in
-      record { of = rest; before = refl; so = omega (arith, c.so, tenth) }
-
-  pub counted_end : rest ≡ 0 → count ≡ digit_count n
-  counted_end e = omega (arith, c.so, count_small c.of (omega (arith, c.before)))
+pub counted : (log n : ℕ) → 10 ^ log ≤ max n 1 → max n 1 < 10 * 10 ^ log → log + 1 ≡ digit_count n
+counted zero zero h k = sym (count_small 0 (omega arith))
+counted (suc log) zero h k = absurd (omega (arith, pow-suc 10 log, pow-le-pow_right {n = 10} (omega arith) {i = 0} {j = log} (omega arith)))
+counted log (suc n) h k = omega (arith, count_log log (suc n) (omega arith) (omega (arith, pow-suc 10 log)))
 
 -- ---- storing them
 

@@ -1,12 +1,12 @@
 -- Parts of a line put one behind the other, and the line that they make.
-use mathlib.Core.Path.{◌≡◌, refl, sym, ap, ◌∙◌}
-use mathlib.Core.Bool.{Bool, true, cond}
-use mathlib.Core.List.{List, [], ◌∷◌, ◌++◌}
-use Prim.Native.Nat.{ℕ, ◌+◌, ◌≤◌}
+use mathlib.Core.Path.{◌≡◌, refl, sym, ◌∙◌}
+use mathlib.Core.Bool.{Bool, true}
+use mathlib.Core.List.{List, [], ◌∷◌, ◌++◌, append_assoc}
+use Prim.Native.Nat.{ℕ, ◌+◌, ◌-◌, ◌≤◌}
 use native.Mathlib.Omega.{arith}
-use lib.ListN.{length, set, length-append}
-use lib.Seq.{sets, length-sets}
-use Rattle.laws.proofs.Cases.{by_test}
+use lib.ListN.{length, set, take, drop, length-append}
+use lib.Seq.{sets-eq, drop-drop}
+use borrow.Rule.Slice.PartMut.{put_mid}
 use Rattle.laws.proofs.Parts.{stored_on}
 use Rattle.rules.specs.declared.Line.{Line as LinePlace}
 use Rattle.program_text.specs.Decimal.{decimal}
@@ -46,14 +46,15 @@ module _ (before : List ℕ) (filled : ℕ) {after : List ℕ} {r : ℕ} where
   unfolding refusal_bytes
   refusal_parts n number = part_within (omega arith) (part_on (part_byte 33 before filled refl) number)
 
-  pub end_parts : (tick : ℕ) → PartPut (closed tick 10) 22 (set (set (set before filled 101) (filled + 1) 110) (filled + 2) 100) (filled + 3) after r
-      → PartPut (end_bytes tick) line_room before filled after r
+  pub end_parts : (tick : ℕ) {word : List ℕ} → word ≡ 101 ∷ 110 ∷ 100 ∷ [] → filled + 3 ≤ length before
+      → PartPut (closed tick 10) 22 (put_mid filled (filled + 3 - filled) before word) (filled + 3) after r → PartPut (end_bytes tick) line_room before filled after r
   unfolding end_bytes
-  end_parts tick number =
-      part_within (omega arith)
-      (part_on (part_byte 101 before filled refl)
-      (part_on (part_byte 110 (set before filled 101) (filled + 1) (omega arith))
-      (part_on (part_byte 100 (set (set before filled 101) (filled + 1) 110) (filled + 2) (omega arith)) number)))
+  end_parts tick {word} e h number =
+      let bytes : List ℕ = 101 ∷ 110 ∷ 100 ∷ [] in
+      let room : filled + 3 - filled ≡ 3 = omega arith in
+      let put : PartPut bytes 3 before filled (put_mid filled (filled + 3 - filled) before word) (filled + 3) =
+      record { content = rw (room, e, drop-drop) (sym (sets-eq bytes before filled h ∙ append_assoc (take filled before) bytes (drop (filled + 3) before))); behind = refl; short = omega arith } in
+      part_within (omega arith) (part_on put number)
 
 -- ---- the whole line
 
@@ -62,8 +63,3 @@ pub line_put : (buffer : List ℕ) (filled : ℕ) {room : Bool} → room ≡ has
 line_put buffer filled told e p =
     let some : has_room line_room (length buffer) filled ≡ true = sym told ∙ e in
     record { content = rw some p.content; holds = rw some p.behind; short = omega (arith, p.behind, p.short) }
-
--- with room or without, the buffer is as long as before
-pub line_long : {bytes buffer after : List ℕ} {filled r : ℕ} → LinePut bytes buffer filled after r → length after ≡ length buffer
-line_long {bytes} {buffer} {filled = filled} l =
-    ap length l.content ∙ by_test (λ t. length (cond t (sets buffer filled bytes) buffer) ≡ length buffer) (has_room line_room (length buffer) filled) (λ _. length-sets buffer filled bytes) (λ _. refl)

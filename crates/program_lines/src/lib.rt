@@ -15,10 +15,7 @@ pub const LINE_ROOM: usize = 85;
 pub fn has_room(length: usize, filled: usize, room: usize) -> bool
     ensures { RoomTold length filled room result }
 {
-    if length < room {
-        return false;
-    }
-    filled <= length - room
+    room <= length && filled <= length - room
 }
 
 // Behind the bytes that the buffer holds; where a whole line has no room, nothing is put, and so with the other two.
@@ -30,13 +27,12 @@ pub fn put_portion(line: Line, buffer: &mut [u8], filled: usize) -> usize
     }
     let first = put_number(line.first, buffer, filled);
     let end = put_spaced(line.end, buffer, first);
-    let used = line.used;
-    let behind = put_used(used, buffer, end);
+    let behind = put_used(line.used, buffer, end);
     buffer[behind] = b'\n';
     behind + 1
 }
 
-// `! number`, whatever the number is.
+// `! number`, whatever the number is: the contract is over any number, and not over the refusals alone.
 pub fn put_refusal(number: u64, buffer: &mut [u8], filled: usize) -> usize
     ensures { LinePut (refusal_bytes number) buffer.old filled buffer.new result }
 {
@@ -54,8 +50,6 @@ pub fn put_end(tick: u64, buffer: &mut [u8], filled: usize) -> usize
     if !has_room(buffer.len(), filled, LINE_ROOM) {
         return filled;
     }
-    buffer[filled] = b'e';
-    buffer[filled + 1] = b'n';
-    buffer[filled + 2] = b'd';
+    buffer[filled..filled + 3].copy_from_slice(b"end");
     put_closed(tick, b'\n', buffer, filled + 3)
 }

@@ -1,5 +1,5 @@
 // The parts of a line, each put at a place of the buffer that has room for the longest.
-ghost use Rattle.std.specs.Prelude.{◌≡◌, ◌+◌, ◌≤◌, ◌<◌, length};
+ghost use Rattle.std.specs.Prelude.{◌≡◌, ◌+◌, ◌≤◌, length};
 ghost use Rattle.program_text.specs.Decimal.{digit_count, decimal};
 ghost use Rattle.program_text.specs.Lines.{dash, spaced, closed, source_bytes, used_bytes};
 ghost use Rattle.program_lines.specs.Inner.{PartPut};
@@ -9,13 +9,7 @@ use rules::{Source, Use};
 fn digit_count(n: u64) -> usize
     ensures { (result ≡ digit_count n) × (result ≤ 20) }
 {
-    let mut count: usize = 1;
-    let mut rest = n / 10;
-    while 0 < rest {
-        rest = rest / 10;
-        count = count + 1;
-    }
-    count
+    n.max(1).ilog10() as usize + 1
 }
 
 // From the last digit to the first.
@@ -25,11 +19,9 @@ pub(crate) fn put_number(n: u64, buffer: &mut [u8], at: usize) -> usize
 {
     let end = at + digit_count(n);
     let mut rest = n;
-    let mut i = end;
-    while at < i {
-        i = i - 1;
-        buffer[i] = 48 + (rest % 10) as u8;
-        rest = rest / 10;
+    for i in (at..end).rev() {
+        buffer[i] = b'0' + (rest % 10) as u8;
+        rest /= 10;
     }
     end
 }

@@ -1,3 +1,2 @@
--- Laws of lines and their digits.
+-- Laws of the digits of a number and of its form.
 pub mod Digits
-pub mod Lines

@@ -1,21 +1,20 @@
 // One line of the program's input: its letter and its numbers, or malformed.
 #![tactic(auto)]
 
-ghost use Rattle.std.specs.Prelude.{true, false, ◌≡◌, ◌+◌, ◌-◌, ◌*◌, ◌≤◌, ◌<◌, length, drop};
-ghost use Rattle.std.proofs.Math.Seq.{slice};
-ghost use Rattle.program_text.specs.Script.{ends, last_at, guest_line, line_with, one_line, LineTold};
+ghost use Rattle.std.specs.Prelude.{true, ◌≡◌, ◌+◌, ◌-◌, ◌*◌, ◌≤◌, ◌<◌, length, slice_index, EachIndex};
+ghost use Rattle.std.specs.List.{take_while};
 ghost use Rattle.laws.specs.Digits.{value_in};
 ghost use Rattle.program_text.specs.Numbers.{is_digit, digits_in, most_digits, well_formed, number_at};
+ghost use Rattle.program_text.specs.Script.{ends, last_at, guest_line, line_with, one_line, LineTold};
 ghost use Rattle.program_script.specs.Inner.{got_in};
 
 use program_text::{Call, Line};
 
-// A number that was read, and the place behind it.
+// A number that was read, and what is behind it.
 #[derive(Clone, Copy)]
-struct Number {
-    ok: bool,
+struct Number<'a> {
     value: u64,
-    end: usize,
+    rest: &'a [u8],
 }
 
 // "a number has 1 to 13 digits"
@@ -24,135 +23,82 @@ const MOST_DIGITS: usize = 13;
 fn is_digit(b: u8) -> bool
     ensures { result ≡ is_digit b }
 {
-    match b {
-        b'0'..=b'9' => true,
-        _ => false,
-    }
+    matches!(b, b'0'..=b'9')
 }
 
-// Where the digits that stand at `at` end.
-fn digits_end(line: &[u8], at: usize) -> usize
-    requires { at ≤ length line.now }
-    ensures { (result ≡ at + digits_in (drop at line.now)) × (result ≤ length line.now) }
+// How many digits stand at the front.
+fn front_digits(bytes: &[u8]) -> usize
+    ensures { result ≡ length (take_while is_digit bytes.now) }
 {
-    let mut i = at;
-    while i < line.len() {
-        if !is_digit(line[i]) {
-            return i;
-        }
-        i = i + 1;
-    }
-    i
+    bytes.iter().take_while(|b| is_digit(**b)).count()
 }
 
-fn with_digit(value: u64, b: u8) -> u64
-    requires { (value < 1_000_000_000_000) × (is_digit b ≡ true) }
-    ensures { result ≡ value * 10 + (b - 48) }
-{
-    value * 10 + (b - 48) as u64
-}
-
-// Not so many digits that the value could wrap.
-fn value_of(line: &[u8], at: usize, end: usize) -> u64
-    requires { (at ≤ end) × (end - at ≤ most_digits) × (end ≡ at + digits_in (drop at line.now)) × (end ≤ length line.now) }
-    ensures { result ≡ value_in 0 (slice at end line.now) }
+// Not so many digits that the value could wrap: a loop, whose invariant says so; a fold would have it in a clause of its own, which is no plainer.
+fn value_of(digits: &[u8]) -> u64
+    requires few { length digits.now ≤ most_digits }
+    requires all { EachIndex digits.now (λ k. is_digit (slice_index digits.now k) ≡ true) }
+    ensures { result ≡ value_in 0 digits.now }
 {
     let mut value: u64 = 0;
-    let mut i = at;
-    while i < end {
-        value = with_digit(value, line[i]);
-        i = i + 1;
+    for b in digits {
+        value = value * 10 + u64::from(*b - b'0');
     }
     value
 }
 
-// "no leading zero unless it is 0"
-fn well_formed(line: &[u8], at: usize, end: usize) -> bool
-    requires { (end ≡ at + digits_in (drop at line.now)) × (end ≤ length line.now) }
-    ensures { result ≡ well_formed (drop at line.now) }
+// "1 to 13 digits and no leading zero unless it is 0", of so many digits at the front.
+#[tactic(auto, using(crate::proofs::Digits::digits_within), unfolding(program_text::specs::Numbers::well_formed))]
+fn well_formed(bytes: &[u8], digits: usize) -> bool
+    requires { digits ≡ digits_in bytes.now }
+    ensures { result ≡ well_formed bytes.now }
 {
-    if end <= at {
-        return false;
-    }
-    if MOST_DIGITS < end - at {
-        return false;
-    }
-    let single = end - at == 1;
-    let zero = line[at] == b'0';
-    single | !zero
-}
-
-fn no_number() -> Number
-    ensures { result ≡ record { ok = false; value = 0; end = 0 } }
-{
-    Number {
-        ok: false,
-        value: 0,
-        end: 0,
-    }
+    1 <= digits && digits <= MOST_DIGITS && (digits == 1 || bytes[0] != b'0')
 }
 
 // The number behind one space.
-fn number_at(line: &[u8], at: usize) -> Number
-    requires { at ≤ length line.now }
-    ensures { (got_in line.now result ≡ number_at (drop at line.now)) × (result.end ≤ length line.now) }
+#[tactic(auto, unfolding(program_text::specs::Numbers::number_at))]
+fn number_at(line: &[u8]) -> Option<Number<'_>>
+    ensures { got_in result ≡ number_at line.now }
 {
-    if line.len() <= at {
-        return no_number();
+    let Some((b' ', bytes)) = line.split_first() else {
+        return None;
+    };
+    let digits = front_digits(bytes);
+    if !well_formed(bytes, digits) {
+        return None;
     }
-    if line[at] != b' ' {
-        return no_number();
-    }
-    let end = digits_end(line, at + 1);
-    if !well_formed(line, at + 1, end) {
-        return no_number();
-    }
-    let value = value_of(line, at + 1, end);
-    Number {
-        ok: true,
-        value,
-        end,
-    }
+    let (number, rest) = bytes.split_at(digits);
+    Some(Number {
+        value: value_of(number),
+        rest,
+    })
 }
 
 // The line feed, and nothing behind it.
-fn ends(line: &[u8], at: usize) -> bool
-    requires { at ≤ length line.now }
-    ensures { result ≡ ends (drop at line.now) }
+fn ends(rest: &[u8]) -> bool
+    ensures { result ≡ ends rest.now }
 {
-    if line.len() - at != 1 {
-        return false;
-    }
-    line[at] == b'\n'
+    matches!(rest, [b'\n'])
 }
 
 // The number that ends its line.
-fn last_at(line: &[u8], at: usize) -> Number
-    requires { at ≤ length line.now }
-    ensures { got_in line.now result ≡ last_at (drop at line.now) }
+#[tactic(auto, unfolding(program_text::specs::Script::last_at))]
+fn last_at(line: &[u8]) -> Option<Number<'_>>
+    ensures { got_in result ≡ last_at line.now }
 {
-    let n = number_at(line, at);
-    if !n.ok {
-        return no_number();
-    }
-    if !ends(line, n.end) {
-        return no_number();
-    }
-    n
+    number_at(line).filter(|n| ends(n.rest))
 }
 
-fn guest_line(line: &[u8]) -> Line
-    requires { 1 ≤ length line.now }
-    ensures { result ≡ guest_line (number_at (drop 1 line.now)) }
+#[tactic(auto, unfolding(program_text::specs::Script::guest_line))]
+fn guest_line(numbers: &[u8]) -> Line
+    ensures { result ≡ guest_line (number_at numbers.now) }
 {
-    let budget = number_at(line, 1);
-    if !budget.ok {
+    let Some(budget) = number_at(numbers) else {
         return Line::Malformed;
-    }
-    let period = last_at(line, budget.end);
-    if !period.ok {
+    };
+    let Some(period) = last_at(budget.rest) else {
         return Line::Malformed;
-    }
+    };
     Line::Guest(budget.value, period.value)
 }
 
@@ -168,27 +114,23 @@ fn line_with(letter: u8, value: u64) -> Line
     }
 }
 
-fn one_line(letter: u8, line: &[u8]) -> Line
-    requires { 1 ≤ length line.now }
-    ensures { result ≡ one_line letter (last_at (drop 1 line.now)) }
+fn one_line(letter: u8, numbers: &[u8]) -> Line
+    ensures { result ≡ one_line letter (last_at numbers.now) }
 {
-    let n = last_at(line, 1);
-    if !n.ok {
-        return Line::Malformed;
+    match last_at(numbers) {
+        Some(n) => line_with(letter, n.value),
+        None => Line::Malformed,
     }
-    line_with(letter, n.value)
 }
 
 // A line with its line feed; any bytes. `G` has two numbers, and every other letter one.
+#[tactic(auto, unfolding(program_text::specs::Script::line_of))]
 pub fn line_of(line: &[u8]) -> Line
     ensures { LineTold line.now result }
 {
-    if line.len() == 0 {
-        return Line::Malformed;
-    }
-    let letter = line[0];
-    match letter {
-        b'G' => guest_line(line),
-        _ => one_line(letter, line),
+    match line {
+        [b'G', numbers @ ..] => guest_line(numbers),
+        [letter, numbers @ ..] => one_line(*letter, numbers),
+        [] => Line::Malformed,
     }
 }

@@ -1,3 +1,4 @@
--- Laws of the parts of a turn, and of its cases.
+-- What a turn puts, the line that it takes, and what a caller learns of it.
 pub mod Doing
-pub mod Choosing
+pub mod Outcomes
+pub mod Lines

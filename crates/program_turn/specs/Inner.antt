@@ -1,8 +1,10 @@
 -- What the parts of a turn say: the contracts of the code's own functions, of which the public ones are made.
-use Rattle.std.specs.Prelude.{◌≡◌, List, ℕ, ◌+◌, ◌≤◌, length}
+use Rattle.std.specs.Prelude.{◌≡◌, List, ℕ, ◌+◌, ◌≤◌, length, Result}
+use Rattle.std.specs.Result.{result_unwrap_or}
 use Rattle.std.proofs.lemmas.List.Edits.{sets}
 use Rattle.rules.specs.declared.Line.{Line as LinePlace}
-use Rattle.rules.specs.declared.Outcome.{Outcome}
+use Rattle.rules.specs.declared.Refusal.{Refusal}
+use Rattle.rules.specs.declared.State.{State}
 use Rattle.rules.specs.Refusals.{number_of}
 use Rattle.program_listing.specs.declared.Held.{Held}
 use Rattle.program_listing.specs.declared.Turned.{Turned}
@@ -23,5 +25,5 @@ pub record PortionsPut (ps : List LinePlace) (buffer : List ℕ) (filled : ℕ) 
   pub short : r ≤ filled + turn_room
 
 -- what an arrival or a completion gave
-abbrev pub called : Outcome → ℕ → Held → Turn
-called r end h = turn (refusal_in (number_of r.answer)) (going_on end h.table r.state 0)
+abbrev pub called : Result State Refusal → ℕ → Held → Turn
+called r end h = turn (refusal_in (number_of r)) (going_on end h.table (result_unwrap_or r h.state) 0)

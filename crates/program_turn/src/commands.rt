@@ -4,10 +4,11 @@ ghost use Rattle.program_listing.specs.Turning.{turn_room, going_on, walks, ends
 ghost use Rattle.program_turn.specs.Inner.{Did, called};
 
 use crate::input::next_line;
-use crate::put::{malformed, over, put_portions};
+use crate::put::{malformed, over, put_portions, refused};
+use answer_number::number_of;
 use program_listing::{Held, Stage, Turned};
 use program_text::{Call, Line};
-use rules::{Answer, Outcome, State, Table};
+use rules::{Refusal, State, Table};
 
 pub(crate) fn going_on(at: usize, table: Table, state: State, left: u64) -> Held
     ensures { result ≡ going_on at table state left }
@@ -21,22 +22,25 @@ pub(crate) fn going_on(at: usize, table: Table, state: State, left: u64) -> Held
     }
 }
 
-// What an arrival or a completion gave; a refused one gave the state back as it was.
-fn called(outcome: Outcome, end: usize, h: Held, buffer: &mut [u8], filled: usize) -> Turned
+// What an arrival or a completion gave; a refused one leaves the state as it was.
+fn called(
+    outcome: Result<State, Refusal>,
+    end: usize,
+    h: Held,
+    buffer: &mut [u8],
+    filled: usize,
+) -> Turned
     requires { filled + turn_room ≤ length buffer.old }
     ensures { Did (called outcome end h) buffer.old filled buffer.new result }
 {
-    let held = going_on(end, h.table, outcome.state, 0);
-    let answer = outcome.answer;
-    let Answer::Went = answer else {
-        let number = answer_number::number_of(answer);
-        let behind = program_lines::put_refusal(number as u64, buffer, filled);
-        return Turned {
-            held,
-            filled: behind,
-        };
+    let Ok(state) = outcome else {
+        let held = going_on(end, h.table, h.state, 0);
+        return refused(number_of(&outcome), held, buffer, filled);
     };
-    Turned { held, filled }
+    Turned {
+        held: going_on(end, h.table, state, 0),
+        filled,
+    }
 }
 
 // The soundness of the state is tested once for all the portions of a walk.
@@ -44,20 +48,18 @@ fn walked(k: u64, end: usize, h: Held, buffer: &mut [u8], filled: usize) -> Turn
     requires { filled + turn_room ≤ length buffer.old }
     ensures { Did (walks k end h) buffer.old filled buffer.new result }
 {
-    let s = h.state;
-    let walk = engine::walk(s, k);
-    let held = going_on(end, h.table, walk.state, walk.left);
-    let answer = walk.answer;
-    let Answer::Went = answer else {
-        let number = answer_number::number_of(answer);
-        let filled = program_lines::put_refusal(number as u64, buffer, filled);
-        return Turned { held, filled };
+    let outcome = engine::walk(h.state, k);
+    let Ok(walk) = outcome else {
+        let held = going_on(end, h.table, h.state, 0);
+        return refused(number_of(&outcome), held, buffer, filled);
     };
-    let lines = walk.lines;
-    let filled = put_portions(lines, walk.shown, buffer, filled);
-    Turned { held, filled }
+    Turned {
+        held: going_on(end, h.table, walk.state, walk.left),
+        filled: put_portions(&walk.lines[..walk.shown], buffer, filled),
+    }
 }
 
+#[tactic(auto, unfolding(rules::specs::Calls::state_after))]
 fn command_line(line: Line, end: usize, h: Held, buffer: &mut [u8], filled: usize) -> Turned
     requires { filled + turn_room ≤ length buffer.old }
     ensures { Did (command_line line end h) buffer.old filled buffer.new result }
@@ -65,16 +67,9 @@ fn command_line(line: Line, end: usize, h: Held, buffer: &mut [u8], filled: usiz
     let Line::Command(call) = line else {
         return malformed(h, buffer, filled);
     };
-    let s = h.state;
     match call {
-        Call::Arrive(i) => {
-            let outcome = engine::arrive(s, i as usize);
-            called(outcome, end, h, buffer, filled)
-        }
-        Call::Done(i) => {
-            let outcome = engine::done(s, i as usize);
-            called(outcome, end, h, buffer, filled)
-        }
+        Call::Arrive(i) => called(engine::arrive(h.state, i as usize), end, h, buffer, filled),
+        Call::Done(i) => called(engine::done(h.state, i as usize), end, h, buffer, filled),
         Call::Advance(k) => walked(k, end, h, buffer, filled),
     }
 }
@@ -83,10 +78,11 @@ fn ended(h: Held, buffer: &mut [u8], filled: usize) -> Turned
     requires { filled + turn_room ≤ length buffer.old }
     ensures { Did (ends h) buffer.old filled buffer.new result }
 {
-    let held = over(h);
-    let s = h.state;
-    let filled = program_lines::put_end(s.now, buffer, filled);
-    Turned { held, filled }
+    let filled = program_lines::put_end(h.state.now, buffer, filled);
+    Turned {
+        held: over(h),
+        filled,
+    }
 }
 
 pub(crate) fn command_turn(input: &[u8], h: Held, buffer: &mut [u8], filled: usize) -> Turned
@@ -100,6 +96,5 @@ pub(crate) fn command_turn(input: &[u8], h: Held, buffer: &mut [u8], filled: usi
         return ended(h, buffer, filled);
     }
     let next = next_line(input, h.at);
-    let line = next.line;
-    command_line(line, next.end, h, buffer, filled)
+    command_line(next.line, next.end, h, buffer, filled)
 }

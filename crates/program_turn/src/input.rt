@@ -1,5 +1,5 @@
 // The line that comes next in the input.
-ghost use Rattle.std.specs.Prelude.{◌≡◌, ◌+◌, ◌≤◌, length, drop};
+ghost use Rattle.std.specs.Prelude.{◌≡◌};
 ghost use Rattle.program_listing.specs.Turning.{line_length, line_at, behind};
 
 use program_text::Line;
@@ -11,32 +11,29 @@ pub(crate) struct Next {
     pub(crate) end: usize,
 }
 
-// Where the line that starts at `at` ends, its line feed with it.
-fn line_end(input: &[u8], at: usize) -> usize
-    requires { at ≤ length input.now }
-    ensures { (result ≡ at + line_length (drop at input.now)) × (result ≤ length input.now) }
+// How many bytes the first line has, its line feed with it.
+fn line_length(rest: &[u8]) -> usize
+    ensures { result ≡ line_length rest.now }
 {
-    let mut i = at;
-    while i < input.len() {
-        if input[i] == b'\n' {
-            return i + 1;
-        }
-        i = i + 1;
+    match rest.iter().position(|b| *b == b'\n') {
+        Some(feed) => feed + 1,
+        None => rest.len(),
     }
-    i
 }
 
 // At the end of the input there is no line, and an empty one is malformed.
 pub(crate) fn next_line(input: &[u8], at: usize) -> Next
     ensures { (result.line ≡ line_at input.now at) × (result.end ≡ behind input.now at) }
 {
-    if input.len() <= at {
+    let Some(rest) = input.get(at..) else {
         return Next {
             line: Line::Malformed,
             end: at,
         };
+    };
+    let length = line_length(rest);
+    Next {
+        line: program_script::line_of(&rest[..length]),
+        end: at + length,
     }
-    let end = line_end(input, at);
-    let line = program_script::line_of(&input[at..end]);
-    Next { line, end }
 }

@@ -17,14 +17,14 @@ mod tables;
 // A turn puts out at most the portions of one walk.
 pub const TURN_ROOM: usize = LINE_PLACES * LINE_ROOM;
 
+#[tactic(auto, unfolding(program_listing::specs::Turning::turn_of))]
 pub fn turn(input: &[u8], h: Held, buffer: &mut [u8], filled: usize) -> Turned
     ensures { Turning input.now h buffer.old filled buffer.new result }
 {
     if !program_lines::has_room(buffer.len(), filled, TURN_ROOM) {
         return Turned { held: h, filled };
     }
-    let stage = h.stage;
-    match stage {
+    match h.stage {
         Stage::Frames => frame_turn(input, h, buffer, filled),
         Stage::Guests => guest_turn(input, h, buffer, filled),
         Stage::Commands => command_turn(input, h, buffer, filled),

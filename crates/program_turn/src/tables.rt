@@ -10,42 +10,30 @@ ghost use Rattle.program_turn.specs.Inner.{Did};
 use crate::commands::going_on;
 use crate::input::next_line;
 use crate::put::{malformed, stopped};
+use answer_number::number_of;
 use program_listing::{Held, MOST_INPUT, Stage, Turned};
 use program_text::Line;
-use rules::{Answer, Entry, GUEST_PLACES, State, Table};
+use rules::{Entry, GUEST_PLACES, State, Table};
 
 fn framed(frame: u64) -> Table
     ensures { result ≡ framed frame }
 {
-    let none = Entry {
-        budget: 0,
-        period: 0,
-    };
     Table {
         frame,
-        count: 0,
-        entries: [none; GUEST_PLACES],
+        ..table::no_table()
     }
 }
 
 // A guest past the places is counted and has no place: the count alone has the table refused.
-fn with_guest(t: Table, guest: Entry) -> Table
+fn with_guest(mut t: Table, guest: Entry) -> Table
     ensures { result ≡ with_guest guest t }
 {
-    let count = t.count;
-    let mut entries = t.entries;
-    if GUEST_PLACES <= count {
-        return Table {
-            frame: t.frame,
-            count: GUEST_PLACES + 1,
-            entries,
-        };
+    if t.count < GUEST_PLACES {
+        t.entries[t.count] = guest;
     }
-    entries[count] = guest;
     Table {
-        frame: t.frame,
-        count: count + 1,
-        entries,
+        count: t.count.min(GUEST_PLACES) + 1,
+        ..t
     }
 }
 
@@ -69,15 +57,12 @@ pub(crate) fn frame_turn(input: &[u8], h: Held, buffer: &mut [u8], filled: usize
     if MOST_INPUT < input.len() {
         return malformed(h, buffer, filled);
     }
-    let state = h.state;
     let next = next_line(input, h.at);
-    let line = next.line;
-    match line {
-        Line::Frame(frame) => {
-            let table = framed(frame);
-            let held = with_table(next.end, table, state);
-            Turned { held, filled }
-        }
+    match next.line {
+        Line::Frame(frame) => Turned {
+            held: with_table(next.end, framed(frame), h.state),
+            filled,
+        },
         _ => malformed(h, buffer, filled),
     }
 }
@@ -87,29 +72,28 @@ fn checked(h: Held, buffer: &mut [u8], filled: usize) -> Turned
     requires { filled + turn_room ≤ length buffer.old }
     ensures { Did (checks (first (table_rows h.table)) h) buffer.old filled buffer.new result }
 {
-    let t = h.table;
-    let outcome = engine::fresh(t);
-    let answer = outcome.answer;
-    let Answer::Went = answer else {
-        return stopped(answer, h, buffer, filled);
+    let outcome = engine::fresh(h.table);
+    let Ok(state) = outcome else {
+        return stopped(number_of(&outcome), h, buffer, filled);
     };
-    let held = going_on(h.at, t, outcome.state, 0);
-    Turned { held, filled }
+    Turned {
+        held: going_on(h.at, h.table, state, 0),
+        filled,
+    }
 }
 
 pub(crate) fn guest_turn(input: &[u8], h: Held, buffer: &mut [u8], filled: usize) -> Turned
     requires { filled + turn_room ≤ length buffer.old }
     ensures { Did (turn_in Guests input.now h) buffer.old filled buffer.new result }
 {
-    let state = h.state;
     let next = next_line(input, h.at);
-    let line = next.line;
-    match line {
+    match next.line {
         Line::Guest(budget, period) => {
-            let guest = Entry { budget, period };
-            let table = with_guest(h.table, guest);
-            let held = with_table(next.end, table, state);
-            Turned { held, filled }
+            let table = with_guest(h.table, Entry { budget, period });
+            Turned {
+                held: with_table(next.end, table, h.state),
+                filled,
+            }
         }
         _ => checked(h, buffer, filled),
     }

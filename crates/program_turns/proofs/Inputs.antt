@@ -2,15 +2,12 @@
 use mathlib.Core.Path.{◌≡◌, refl, sym, ap, ◌∙◌}
 use mathlib.Core.Bool.{cond}
 use mathlib.Core.List.{List, [], ◌∷◌, map}
-use Prim.Native.Nat.{ℕ, suc, ◌+◌, ◌-◌, ◌≤◌, ◌<◌}
-use native.Mathlib.Numerals.{add-one}
+use Prim.Native.Nat.{ℕ, suc, ◌+◌, ◌≤◌, ◌<◌}
 use native.Mathlib.Omega.{arith}
 use lib.Dec.{eqb}
 use lib.ListN.{length, get_or, take, drop, length-drop, drop_of_length-le}
 use lib.Seq.{drop-cons, drop-drop}
-use borrow.Author.Tests.{ne_eqb}
 use Rattle.laws.proofs.Cases.{by_test}
-use Rattle.program_text.specs.declared.Line.{Line}
 use Rattle.program_text.specs.declared.Line.TheVariants.{Malformed}
 use Rattle.program_text.specs.Script.{line_of}
 use Rattle.program_listing.specs.Listing.{onto, lines_in, asked}
@@ -69,43 +66,9 @@ module _ (input : List ℕ) (at : ℕ) where
     unfolding behind
     behind_high = omega (arith, length_high (drop at input), length-drop at input)
 
--- ---- the end of a line
-
--- no byte from `at` up to i is a line feed
-pub record Passed (l : List ℕ) (at i : ℕ) : Type 0 where
-  pub low : at ≤ i
-  pub high : i ≤ length l
-  pub so : at + line_length (drop at l) ≡ i + line_length (drop i l)
-
-pub passed_start : (l : List ℕ) (at : ℕ) → at ≤ length l → Passed l at at
-passed_start l at h = record { low = omega arith; high = h; so = refl }
-
-module _ {l : List ℕ} {at i : ℕ} (p : Passed l at i) where
-  pub passed_more : i < length l → (get_or l i 0 ≡ 10 → ⊥) → Passed l at (i + 1)
-  unfolding line_length
-  passed_more h n =
-      let more : line_length (drop i l) ≡ suc (line_length (drop (suc i) l)) = rw (drop-cons l i 0 h, ne_eqb (get_or l i 0) 10 n) refl in
-      record { low = omega (arith, p.low); high = omega arith; so = rw (add-one i) (omega (arith, p.so, more)) }
-
-  pub passed_feed : i < length l → get_or l i 0 ≡ 10 → (i + 1 ≡ at + line_length (drop at l)) × (i + 1 ≤ length l)
-  unfolding line_length
-  passed_feed h e =
-      let one : line_length (drop i l) ≡ 1 = rw (drop-cons l i 0 h, e) refl in
-      (omega (arith, p.so, one), omega arith)
-
-  pub passed_end : length l ≤ i → (i ≡ at + line_length (drop at l)) × (i ≤ length l)
-  unfolding line_length
-  passed_end h = let none : line_length (drop i l) ≡ 0 = ap line_length (drop_of_length-le l h) in (omega (arith, p.so, none), p.high)
-
 -- ---- the line that comes next
 
 module _ (input : List ℕ) (at : ℕ) where
   pub next_none : length input ≤ at → (Malformed ≡ line_at input at) × (at ≡ behind input at)
   unfolding behind line_length
   next_none h = let none : line_length (drop at input) ≡ 0 = ap line_length (drop_of_length-le input h) in (sym (line_end input at h), omega arith)
-
-  pub next_some : {end : ℕ} {l : Line} → end ≡ at + line_length (drop at input) → l ≡ line_of (take (end - at) (drop at input)) → (l ≡ line_at input at) × (end ≡ behind input at)
-  unfolding line_at behind
-  next_some {end} e f =
-      let long : end - at ≡ line_length (drop at input) = omega arith in
-      (f ∙ ap (λ (n : ℕ). line_of (take n (drop at input))) long, e)

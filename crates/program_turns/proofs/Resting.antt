@@ -2,11 +2,11 @@
 use mathlib.Core.Path.{◌≡◌, refl, sym, ap, ◌∙◌, subst}
 use mathlib.Core.Bool.{true, cond}
 use mathlib.Core.List.{List, [], ◌∷◌, ◌++◌, map, append-nil, append_assoc}
-use Prim.Native.Nat.{ℕ, zero, suc, ◌≤◌, ◌<◌}
+use Prim.Native.Nat.{ℕ, zero, suc, ◌≤◌}
 use native.Mathlib.Omega.{arith}
 use lib.Dec.{leb, ltb}
 use lib.ListN.{length, drop}
-use Rattle.laws.proofs.Cases.{by_test, by_leb, by_ltb, by_index}
+use Rattle.laws.proofs.Cases.{by_test, by_leb, by_ltb}
 use Rattle.rules.specs.declared.State.{State}
 use Rattle.rules.specs.Refusals.{first}
 use Rattle.rules.specs.Table.{table_rows}
@@ -95,10 +95,6 @@ module _ (s : State) (k n : ℕ) (e : first (advance_rows s k) ≡ suc n) where
   refused-left : walk_left k s ≡ 0
   unfolding walk_left
   refused-left = rw e
-
-pub walk_nothing : (s : State) (k : ℕ) → 0 < first (advance_rows s k) → walk_lines k s ≡ []
-unfolding walk_lines
-walk_nothing s k h = by_index (λ n. first (advance_rows s k) ≡ n → walk_lines k s ≡ []) (λ e. absurd (omega arith)) (λ n e. (refused-lines s k n e).1) (first (advance_rows s k)) refl
 
 module _ (s : State) (k : ℕ) (ls : List Line) where
   -- the portions of a walk, and then those of what it left

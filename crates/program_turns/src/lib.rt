@@ -9,14 +9,11 @@ use program_listing::{Held, Stage};
 pub fn begin() -> Held
     ensures { Begun result }
 {
-    let table = table::no_table();
-    let none = engine::fresh(table);
-    let state = none.state;
     Held {
         at: 0,
         stage: Stage::Frames,
-        table,
-        state,
+        table: table::no_table(),
+        state: engine::no_state(),
         left: 0,
     }
 }
@@ -25,10 +22,5 @@ pub fn begin() -> Held
 pub fn is_going(stage: Stage) -> bool
     ensures { GoingTold stage result }
 {
-    match stage {
-        Stage::Frames => true,
-        Stage::Guests => true,
-        Stage::Commands => true,
-        Stage::Over => false,
-    }
+    !matches!(stage, Stage::Over)
 }

@@ -21,21 +21,16 @@ fn fill(input: &[u8], from: Held, buffer: &mut [u8]) -> Turned
     requires { turn_room ≤ length buffer.old }
     ensures { Filled input.now from buffer.new result }
 {
-    let mut held = from;
-    let mut filled: usize = 0;
-    let first = from.stage;
-    let mut going = program_turns::is_going(first);
-    while going {
-        let turned = program_turn::turn(input, held, buffer, filled);
-        let next = turned.held;
-        held = next;
-        filled = turned.filled;
-        let stage = next.stage;
-        let more = program_turns::is_going(stage);
-        let room = program_lines::has_room(buffer.len(), filled, TURN_ROOM);
-        going = more & room;
+    let mut turned = Turned {
+        held: from,
+        filled: 0,
+    };
+    while program_turns::is_going(turned.held.stage)
+        && program_lines::has_room(buffer.len(), turned.filled, TURN_ROOM)
+    {
+        turned = program_turn::turn(input, turned.held, buffer, turned.filled);
     }
-    Turned { held, filled }
+    turned
 }
 
 // Each full buffer is written whole, and a write that fails ends the program.
@@ -43,17 +38,12 @@ fn run(input: &[u8], buffer: &mut [u8])
     requires { turn_room ≤ length buffer.old }
 {
     let mut held = program_turns::begin();
-    let mut going = true;
-    while going {
+    while program_turns::is_going(held.stage) {
         let turned = fill(input, held, buffer);
-        let filled = turned.filled;
-        if !io::write_all(STDOUT_FILENO, &buffer[..filled]) {
+        if !io::write_all(STDOUT_FILENO, &buffer[..turned.filled]) {
             return;
         }
-        let next = turned.held;
-        held = next;
-        let stage = next.stage;
-        going = program_turns::is_going(stage);
+        held = turned.held;
     }
 }
 

@@ -1,29 +1,26 @@
 -- `program_script::number_at` meets its contract: a space, and digits in good form.
-use mathlib.Core.Path.{sym, ◌∙◌}
-use native.Mathlib.Omega.{arith}
-use Rattle.program_script.proofs.Digits.{number_end, number_elsewhere, number_malformed, number_got, number_none, form_few}
-use borrow.Author.Rules.{rules}
+use mathlib.Core.Path.{◌≡◌, sym, ap, ◌∙◌}
+use mathlib.Core.List.{◌∷◌}
+use Rattle.std.proofs.Common.{rules}
+use Rattle.program_text.specs.Numbers.{number_at}
+use Rattle.program_script.proofs.Digits.{digits_counted, taken_few, taken_digits, number_got}
 use Rattle.program_script.proofs.number_at.Goals as goal
 
-pub returns-then-line-at : goal.returns-then-line-at
-returns-then-line-at c = number_none c.args.line.now c.no_number.ensures (number_end c.args.line.now c.args.at (search rules))
+pub well_formed-requires : goal.well_formed-requires
+well_formed-requires c = c.front_digits-digits.ensures ∙ digits_counted c.in-Some-eq32-default.bytes.now
 
-pub returns-then-line-at-ne32 : goal.returns-then-line-at-ne32
-returns-then-line-at-ne32 c =
-    number_none c.args.line.now c.no_number-then-line-at-ne32.ensures (number_elsewhere c.args.line.now c.args.at (search rules) (search rules))
+pub value_of-requires-clause-few : goal.value_of-requires-clause-few
+value_of-requires-clause-few c =
+    let bytes = c.in-Some-eq32-default.bytes.now in
+    taken_few bytes (c.front_digits-digits.ensures ∙ digits_counted bytes) (search rules) c.split_at.ensures.front
 
-pub returns-then-not-well_formed : goal.returns-then-not-well_formed
-returns-then-not-well_formed c =
-    number_none c.args.line.now c.no_number-then-not-well_formed.ensures
-    (number_malformed c.args.line.now c.args.at (search rules) (search rules) (sym c.if-not-well_formed.true ∙ c.well_formed-2.ensures))
-
-pub value_of-value-requires : goal.value_of-value-requires
-value_of-value-requires c =
-    let d = c.digits_end-end.ensures in
-    let few = form_few _ (sym c.well_formed-2.ensures ∙ c.if-not-well_formed.false) in
-    (omega (arith, d.0), omega (arith, d.0, few), d.0, d.1)
+pub value_of-requires-clause-all : goal.value_of-requires-clause-all
+value_of-requires-clause-all c =
+    let bytes = c.in-Some-eq32-default.bytes.now in
+    taken_digits bytes (c.front_digits-digits.ensures ∙ digits_counted bytes) (search rules) c.split_at.ensures.front
 
 pub returns : goal.returns
 returns c =
-    let d = c.digits_end-end.ensures in
-    (number_got c.args.line.now c.args.at (search rules) (search rules) (sym c.if-not-well_formed.false ∙ c.well_formed-2.ensures) d.0 c.value_of-value.ensures, d.1)
+    let bytes = c.in-Some-eq32-default.bytes.now in
+    let line : c.args.line.now ≡ 32 ∷ bytes = search rules in
+    number_got bytes (c.front_digits-digits.ensures ∙ digits_counted bytes) (search rules) c.split_at.ensures.front c.value_of.ensures c.split_at.ensures.back ∙ ap number_at (sym line)

@@ -3,8 +3,8 @@ use Rattle.program_listing.specs.Turning.{to_go}
 use Rattle.schedule.proofs.Looping.{Filling}
 use Rattle.schedule.proofs.fill.Given as goal
 
-abbrev pub invariant-loop-going : goal.invariant-loop-going
-invariant-loop-going l = Filling l.input l.initial.buffer l.initial.held l.buffer l.held l.filled l.going
+abbrev pub invariant-loop-buffer : goal.invariant-loop-buffer
+invariant-loop-buffer l = Filling l.input l.initial.buffer l.fn.from l.buffer l.turned
 
-abbrev pub decreases-loop-going : goal.decreases-loop-going
-decreases-loop-going l = to_go l.input l.held
+abbrev pub decreases-loop-buffer : goal.decreases-loop-buffer
+decreases-loop-buffer l = to_go l.input l.turned.held

@@ -9,16 +9,16 @@ use Rattle.program_lines.proofs.parts.put_number.Goals as goal
 pub loop-i-init : goal.loop-i-init
 loop-i-init c =
     let a = c.args in
-    (search rules, stored_start a.n a.buffer.now a.at (a.at + c.digit_count.result) (search rules))
+    stored_start a.n a.buffer.now a.at (a.at + c.digit_count.result) (search rules)
 
 pub loop-i-preserved : goal.loop-i-preserved
-loop-i-preserved c = (search rules, stored_more c.loop-i.invariant.1 (search rules) (search rules))
+loop-i-preserved c = stored_more c.loop-i.invariant (omega arith) (search rules)
 
 pub returns : goal.returns
 returns c =
     let n = c.args.n in
     record {
-      content = stored_end c.loop-i.invariant.1 (search rules);
+      content = stored_end c.loop-i.invariant (search rules);
       behind = omega (arith, decimal_long n);
       short = omega (arith, decimal_long n);
     }
