@@ -1,10 +1,34 @@
 // The line that says what to measure: call, guests, spares and times, with one byte between two numbers.
-ghost use Rattle.std.specs.Prelude.{◌<◌, length};
+ghost use Rattle.std.specs.Prelude.{◌<◌, length, IsSome};
+
+// Which call is measured; the turns alone for any other number.
+#[derive(Clone, Copy)]
+pub(crate) enum Call {
+    Arrive,
+    Done,
+    Ask,
+    Advance,
+    LongAdvance,
+    Nothing,
+}
+
+impl From<u64> for Call {
+    fn from(number: u64) -> Call {
+        match number {
+            1 => Call::Arrive,
+            2 => Call::Done,
+            3 => Call::Ask,
+            4 => Call::Advance,
+            5 => Call::LongAdvance,
+            _ => Call::Nothing,
+        }
+    }
+}
 
 // What to measure, as the line has it.
 #[derive(Clone, Copy)]
 pub(crate) struct Job {
-    pub(crate) call: u64,
+    pub(crate) call: Call,
     pub(crate) guests: u64,
     pub(crate) spares: u64,
     pub(crate) times: u64,
@@ -17,41 +41,29 @@ struct Number {
     next: usize,
 }
 
-// The digit at a place, or 10 where there is none.
-fn digit_at(line: &[u8], i: usize) -> u64
-    ensures { result < 10 → i < length line.now }
+// The digit at a place, where there is one.
+fn digit_at(line: &[u8], i: usize) -> Option<u64>
+    ensures { IsSome result → i < length line.now }
 {
-    if line.len() <= i {
-        return 10;
-    }
-    let b = line[i];
-    match b {
-        b'0'..=b'9' => (b - b'0') as u64,
-        _ => 10,
+    match line.get(i) {
+        Some(b @ b'0'..=b'9') => Some(u64::from(*b - b'0')),
+        _ => None,
     }
 }
 
-// One more digit. A number that does not fit wraps: nobody measures so many turns.
-fn appended(value: u64, digit: u64) -> u64 {
-    let two = std::num::wrapping_add_u64(value, value);
-    let four = std::num::wrapping_add_u64(two, two);
-    let five = std::num::wrapping_add_u64(four, value);
-    let ten = std::num::wrapping_add_u64(five, five);
-    std::num::wrapping_add_u64(ten, digit)
-}
-
-// The number that starts at a place; one without digits is 0. The byte behind it is passed over.
+// The number that starts at a place, and where it ends, which the loop counts; one without digits is 0, and one that does not fit wraps: nobody measures so many turns. The byte
+// behind it is passed over.
 fn number_at(line: &[u8], from: usize) -> Number {
     let mut value: u64 = 0;
     let mut i = from;
-    let mut digit = digit_at(line, i);
-    while digit < 10 {
-        value = appended(value, digit);
-        i = i + 1;
-        digit = digit_at(line, i);
+    while let Some(digit) = digit_at(line, i) {
+        value = value.wrapping_mul(10).wrapping_add(digit);
+        i += 1;
     }
-    let next = std::num::wrapping_add_usize(i, 1);
-    Number { value, next }
+    Number {
+        value,
+        next: i.wrapping_add(1),
+    }
 }
 
 pub(crate) fn job_of(line: &[u8]) -> Job {
@@ -60,7 +72,7 @@ pub(crate) fn job_of(line: &[u8]) -> Job {
     let spares = number_at(line, guests.next);
     let times = number_at(line, spares.next);
     Job {
-        call: call.value,
+        call: Call::from(call.value),
         guests: guests.value,
         spares: spares.value,
         times: times.value,

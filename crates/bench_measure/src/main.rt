@@ -1,7 +1,7 @@
 // Makes one call of the engine so many times on a prepared state, and writes a checksum of what came of it: what bench/ measures.
 #![tactic(auto)]
 
-use crate::input::{Job, job_of};
+use crate::input::{Call, Job, job_of};
 use crate::repeat::{advances, arrivals, asks, completions, long_advance, no_calls};
 use crate::setting::{last_guest, prepared};
 
@@ -11,16 +11,15 @@ mod repeat;
 mod setting;
 
 fn checksum_of(job: Job) -> u64 {
-    let call = job.call;
     let last = last_guest(job.guests);
-    let s = prepared(call, last, job.spares);
-    match call {
-        1 => arrivals(s, last, job.times),
-        2 => completions(s, last, job.times),
-        3 => asks(s, last, job.times),
-        4 => advances(s, job.times),
-        5 => long_advance(s, job.times),
-        _ => no_calls(s, job.times),
+    let s = prepared(job.call, last, job.spares);
+    match job.call {
+        Call::Arrive => arrivals(s, last, job.times),
+        Call::Done => completions(s, last, job.times),
+        Call::Ask => asks(s, last, job.times),
+        Call::Advance => advances(s, job.times),
+        Call::LongAdvance => long_advance(s, job.times),
+        Call::Nothing => no_calls(s, job.times),
     }
 }
 

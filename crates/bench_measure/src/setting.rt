@@ -1,7 +1,8 @@
 // The state that a call is measured on: a table, spares and active guests, made by the engine's own calls.
-ghost use Rattle.std.specs.Prelude.{◌<◌, ◌≤◌};
+ghost use Rattle.std.specs.Prelude.{◌<◌};
 ghost use Rattle.rules.specs.Limits.{guest_places};
 
+use crate::input::Call;
 use rules::{Entry, GUEST_PLACES, SPARE_PLACES, State, Table};
 
 const FRAME: u64 = 240;
@@ -16,22 +17,7 @@ const MOST_SPARES: u64 = SPARE_PLACES as u64 - 1;
 pub(crate) fn last_guest(guests: u64) -> usize
     ensures { result < guest_places }
 {
-    if guests == 0 {
-        return 0;
-    }
-    if (GUEST_PLACES as u64) < guests {
-        return GUEST_PLACES - 1;
-    }
-    (guests - 1) as usize
-}
-
-fn smaller(a: u64, b: u64) -> u64
-    ensures { (result ≤ a) × (result ≤ b) }
-{
-    if a < b {
-        return a;
-    }
-    b
+    (guests.clamp(1, GUEST_PLACES as u64) - 1) as usize
 }
 
 // Periods from the whole frame down to its sixth: the spares of different guests lie in between each other.
@@ -48,16 +34,9 @@ fn entry_of(i: usize, budget: u64) -> Entry
 fn table_of(last: usize, budget: u64) -> Table
     requires { last < guest_places }
 {
-    let none = Entry {
-        budget: 0,
-        period: 0,
-    };
-    let mut entries = [none; GUEST_PLACES];
-    let mut i: usize = 0;
-    while i <= last {
-        let e = entry_of(i, budget);
-        entries[i] = e;
-        i = i + 1;
+    let mut entries = [Entry::default(); GUEST_PLACES];
+    for i in 0..last + 1 {
+        entries[i] = entry_of(i, budget);
     }
     Table {
         frame: FRAME,
@@ -68,67 +47,51 @@ fn table_of(last: usize, budget: u64) -> Table
 
 // A guest that goes idle as it came leaves its whole budget; the next time its deadline is one period later.
 fn one_spare(s: State, i: usize) -> State {
-    let a = engine::arrive(s, i);
-    let active = a.state;
-    let b = engine::done(active, i);
-    b.state
+    let active = engine::arrive(s, i).unwrap_or(s);
+    engine::done(active, i).unwrap_or(active)
 }
 
 fn next_guest(i: usize, last: usize) -> usize {
-    if i < last {
-        return i + 1;
-    }
-    0
+    if i < last { i + 1 } else { 0 }
 }
 
 // Guest after guest leaves a spare.
 fn with_spares(s: State, last: usize, spares: u64) -> State {
     let mut state = s;
-    let mut i: usize = 0;
-    let mut n: u64 = 0;
-    while n < spares {
-        let more = one_spare(state, i);
-        state = more;
+    let mut i = 0;
+    for _ in 0..spares {
+        state = one_spare(state, i);
         i = next_guest(i, last);
-        n = n + 1;
     }
     state
 }
 
 fn with_active(s: State, guests: u64) -> State {
     let mut state = s;
-    let mut n: u64 = 0;
-    while n < guests {
-        let r = engine::arrive(state, n as usize);
-        let more = r.state;
-        state = more;
-        n = n + 1;
+    for n in 0..guests {
+        state = engine::arrive(state, n as usize).unwrap_or(state);
     }
     state
 }
 
 // Short portions for one long advance: with a budget of 1 every tick is a portion.
-fn budget_for(call: u64) -> u64 {
-    if call == 5 {
-        return 1;
+fn budget_for(call: Call) -> u64 {
+    match call {
+        Call::LongAdvance => 1,
+        _ => BUDGET,
     }
-    BUDGET
 }
 
 // As many other guests are active as there is room for, and the last guest too, but where its arrival is measured.
-pub(crate) fn prepared(call: u64, last: usize, wanted: u64) -> State
+pub(crate) fn prepared(call: Call, last: usize, wanted: u64) -> State
     requires { last < guest_places }
 {
-    let spares = smaller(wanted, MOST_SPARES);
-    let others = smaller(last as u64, MOST_SPARES - spares);
-    let t = table_of(last, budget_for(call));
-    let made = engine::fresh(t);
-    let start = made.state;
-    let spared = with_spares(start, last, spares);
-    let s = with_active(spared, others);
-    if call == 1 {
-        return s;
+    let spares = wanted.min(MOST_SPARES);
+    let others = (last as u64).min(MOST_SPARES - spares);
+    let start = engine::fresh(table_of(last, budget_for(call))).unwrap_or(engine::no_state());
+    let s = with_active(with_spares(start, last, spares), others);
+    match call {
+        Call::Arrive => s,
+        _ => engine::arrive(s, last).unwrap_or(s),
     }
-    let r = engine::arrive(s, last);
-    r.state
 }

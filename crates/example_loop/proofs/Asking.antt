@@ -3,11 +3,12 @@ use mathlib.Core.Path.{◌≡◌, refl, sym, ap, subst, ◌∙◌}
 use mathlib.Core.Bool.{true}
 use Prim.Native.Nat.{ℕ}
 use borrow.Author.Tests.{not-false}
-use Rattle.rules.specs.declared.Asked.{Asked}
+use Rattle.std.specs.Prelude.{Ok}
+use Rattle.rules.specs.declared.Portion.{Portion as DeclaredPortion}
 use Rattle.rules.specs.declared.State.{State}
 use Rattle.rules.specs.Calls.{ask_rows, told, portion_of, AskedFor}
 use Rattle.rules.specs.Places.{model}
-use Rattle.rules.specs.Refusals.{first, number_of}
+use Rattle.rules.specs.Refusals.{first}
 use Rattle.rules.specs.Sound.{sound}
 use Rattle.rules.specs.Steps.{Portion, span_of, nothing_to_do, ask}
 use Rattle.promises.specs.Spans.{Within}
@@ -17,9 +18,9 @@ use Rattle.promises.proofs.Spans.{span_positive}
 use Rattle.example_loop.specs.Clauses.{WithinSpan}
 
 -- Ask went, so the state is sound, and the portion of a sound state has a tick left
-pub span_some : (s : State) (r : Asked) → AskedFor s r → number_of r.answer ≡ 0 → WithinSpan 1 r.next
-span_some s r a went =
-    let none : first (ask_rows s) ≡ 0 = sym a.answer ∙ went in
+pub span_some : (s : State) (next : DeclaredPortion) → AskedFor s (Ok next) → WithinSpan 1 next
+span_some s next a =
+    let none : first (ask_rows s) ≡ 0 = sym a.answer in
     let h : sound s ≡ true = not-false (sound s) (clear (ask_rows s) refl none).0 in
-    let same : portion_of r.next ≡ ask (model s) = a.next ∙ ap (λ (n : ℕ). told n ask nothing_to_do s) none in
+    let same : portion_of next ≡ ask (model s) = a.next ∙ ap (λ (n : ℕ). told n ask nothing_to_do s) none in
     subst (λ (p : Portion). Within 1 (span_of p)) (sym same) (span_positive (model s) (sane_model s h))

@@ -14,11 +14,7 @@ pub(crate) const GUESTS: usize = 4;
 // A tick is 10 microseconds, so the cluster view has 2 milliseconds of every 10. The shares take 3,600 ticks of each frame of
 // 4,000, so the table is accepted.
 pub(crate) fn four_guests() -> Table {
-    let unused = Entry {
-        budget: 0,
-        period: 0,
-    };
-    let mut entries = [unused; GUEST_PLACES];
+    let mut entries = [Entry::default(); GUEST_PLACES];
     entries[CLUSTER_VIEW] = Entry {
         budget: 200,
         period: 1000,

@@ -1,7 +1,7 @@
 // The lines that the program writes: stretches, events, refusals and, at the end, the tallies.
 use crate::events::{Call, Event};
 use crate::guests::GUESTS;
-use rules::{Answer, GUEST_PLACES, Guest, Portion, Source, State};
+use rules::{Guest, Portion, Refusal, Source, State};
 
 // Where output goes to, by its number.
 const STDOUT_FILENO: i32 = 1;
@@ -55,10 +55,9 @@ pub(crate) fn write_stretch(first: u64, end: u64, next: Portion) {
 }
 
 pub(crate) fn write_event(event: Event) {
-    let call = event.call;
     write_text(b"at ");
     write_number(event.tick);
-    match call {
+    match event.call {
         Call::Arrive => write_text(b" arrive "),
         Call::Done => write_text(b" done "),
     }
@@ -66,14 +65,13 @@ pub(crate) fn write_event(event: Event) {
     write_text(b"\n");
 }
 
-pub(crate) fn write_refusal(answer: Answer) {
-    let refusal = answer_number::number_of(answer);
+pub(crate) fn write_refusal(refusal: Refusal) {
     write_text(b"! ");
-    write_number(refusal as u64);
+    write_number(u64::from(u32::from(refusal)));
     write_text(b"\n");
 }
 
-fn write_guest(i: usize, guest: Guest) {
+fn write_guest(i: usize, guest: &Guest) {
     write_text(b"guest ");
     write_guest_number(i);
     write_text(b" own ");
@@ -83,9 +81,8 @@ fn write_guest(i: usize, guest: Guest) {
     write_text(b"\n");
 }
 
-fn write_guests(guests: [Guest; GUEST_PLACES]) {
-    for i in 0..GUESTS {
-        let guest = guests[i];
+fn write_guests(guests: &[Guest]) {
+    for (i, guest) in guests.iter().enumerate() {
         write_guest(i, guest);
     }
 }
@@ -94,8 +91,7 @@ pub(crate) fn write_end(state: State) {
     write_text(b"end ");
     write_number(state.now);
     write_text(b"\n");
-    let guests = state.guests;
-    write_guests(guests);
+    write_guests(&state.guests[..GUESTS]);
     write_text(b"burned ");
     write_number(state.burned);
     write_text(b"\nidle ");

@@ -1,23 +1,17 @@
 // An integrator's loop, as a hypervisor would have it: ask who runs next, run it until its span ends or an event comes, ask again.
 #![tactic(auto)]
 
-ghost use Rattle.std.specs.Prelude.{◌≡◌, ◌+◌, ◌≤◌, ◌<◌, min};
+ghost use Rattle.std.specs.Prelude.{◌+◌, ◌≤◌, ◌<◌, min};
 ghost use Rattle.example_loop.specs.Clauses.{WithinSpan, Stops};
 
 use crate::events::{Call, END, Event, event_of};
 use crate::guests::four_guests;
 use crate::lines::{write_end, write_event, write_refusal, write_stretch};
-use rules::{Answer, Outcome, Portion, State};
+use rules::{Portion, Refusal, State};
 
 mod events;
 mod guests;
 mod lines;
-
-fn sooner(a: u64, b: u64) -> u64
-    ensures { result ≡ min a b }
-{
-    if a < b { a } else { b }
-}
 
 // How long to run before asking again: behind the span comes another portion, and an event may change who runs. `event` and `end` are the
 // ticks of the next event and of the end.
@@ -30,32 +24,31 @@ fn ticks_to_run(next: Portion, clock: u64, event: u64, end: u64) -> u64
     ensures end { clock + result ≤ end }
     ensures stops { Stops next clock event end result }
 {
-    let room = sooner(event, end) - clock;
+    let room = event.min(end) - clock;
     match next {
-        Portion::Run(_, _, _, span) => sooner(span, room),
-        Portion::Burn(_, _, span) => sooner(span, room),
+        Portion::Run(_, _, _, span) => span.min(room),
+        Portion::Burn(_, _, span) => span.min(room),
         Portion::Nothing => room,
     }
 }
 
-fn called(state: State, event: Event) -> Outcome {
-    let call = event.call;
-    match call {
+fn called(state: State, event: Event) -> Result<State, Refusal> {
+    match event.call {
         Call::Arrive => engine::arrive(state, event.guest),
         Call::Done => engine::done(state, event.guest),
     }
 }
 
-// A refused call gives the state back as it was, so the loop goes on with what came back either way.
+// A refused call changes nothing, so the loop goes on with the state as it was.
 fn after_event(state: State, event: Event) -> State {
     write_event(event);
-    let outcome = called(state, event);
-    let answer = outcome.answer;
-    let Answer::Went = answer else {
-        write_refusal(answer);
-        return outcome.state;
-    };
-    outcome.state
+    match called(state, event) {
+        Ok(after) => after,
+        Err(refusal) => {
+            write_refusal(refusal);
+            state
+        }
+    }
 }
 
 // Each turn hands over one event that has come or runs one stretch, so nobody runs while an event waits. The clock is the hypervisor's: the
@@ -71,35 +64,31 @@ fn run_guests(fresh: State) -> State {
             number += 1;
             continue;
         }
-        let asked = engine::ask(state);
-        let answer = asked.answer;
-        let Answer::Went = answer else {
-            write_refusal(answer);
-            return state;
+        let next = match engine::ask(state) {
+            Ok(next) => next,
+            Err(refusal) => {
+                write_refusal(refusal);
+                return state;
+            }
         };
-        let next = asked.next;
         let ticks = ticks_to_run(next, clock, event.tick, END);
         // Here a hypervisor starts the guest, or sleeps where there is none, with its timer set to so many ticks.
         write_stretch(clock, clock + ticks, next);
-        let outcome = engine::advance(state, ticks);
-        let answer = outcome.answer;
-        let Answer::Went = answer else {
-            write_refusal(answer);
-            return state;
+        state = match engine::advance(state, ticks) {
+            Ok(after) => after,
+            Err(refusal) => {
+                write_refusal(refusal);
+                return state;
+            }
         };
-        state = outcome.state;
         clock += ticks;
     }
     state
 }
 
 fn main() {
-    let outcome = engine::fresh(four_guests());
-    let answer = outcome.answer;
-    let Answer::Went = answer else {
-        write_refusal(answer);
-        return;
-    };
-    let state = run_guests(outcome.state);
-    write_end(state);
+    match engine::fresh(four_guests()) {
+        Ok(fresh) => write_end(run_guests(fresh)),
+        Err(refusal) => write_refusal(refusal),
+    }
 }

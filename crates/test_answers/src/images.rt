@@ -8,30 +8,25 @@ const IMAGE_PLACES: usize = 65600;
 
 fn put_all(image: &[u8], buffer: &mut [u8]) -> usize {
     let loaded = image::read(image);
-    let answer = loaded.answer;
-    let t = loaded.table;
-    let told = put_answer(answer, buffer, 0);
-    let shown = put_table(t, buffer, told);
-    let number = c_images::check(image);
-    let checked = put_number(number as u64, buffer, shown);
+    let told = put_answer(&loaded, buffer, 0);
+    let shown = put_table(&loaded.unwrap_or(table::no_table()), buffer, told);
+    let checked = put_number(&u64::from(c_images::check(image)), buffer, shown);
     put_bytes(image::entries(image), buffer, checked)
 }
 
 // The image fills what is lent, or the input ends in it.
-fn taken_whole(image: &mut [u8], buffer: &mut [u8]) -> usize {
-    let got = io::read_full(STDIN_FILENO, image);
-    if got < image.len() {
-        return 0;
+fn taken_whole(image: &mut [u8], buffer: &mut [u8]) -> Option<usize> {
+    if io::read_full(STDIN_FILENO, image) < image.len() {
+        return None;
     }
-    put_all(image, buffer)
+    Some(put_all(image, buffer))
 }
 
-pub(crate) fn answered(buffer: &mut [u8]) -> usize {
+pub(crate) fn answered(buffer: &mut [u8]) -> Option<usize> {
     let length = next_number();
     if (IMAGE_PLACES as u64) < length {
-        return 0;
+        return None;
     }
-    let places = length as usize;
     let mut space = [0u8; IMAGE_PLACES];
-    taken_whole(&mut space[0..places], buffer)
+    taken_whole(&mut space[..length as usize], buffer)
 }

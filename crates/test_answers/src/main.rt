@@ -19,37 +19,30 @@ const STDOUT_FILENO: i32 = 1;
 // The longest answer, that to a state, has 1,577 numbers.
 const ANSWER_PLACES: usize = 16384;
 
-// How many bytes of the buffer the answer has: 0 where the input has ended, and where no such request is known.
-fn answered(buffer: &mut [u8]) -> usize {
-    let kind = next_number();
-    match kind {
+// How many bytes of the buffer the answer has; none where the input has ended, and where no such request is known. A kind is read and used here
+// alone, so an enum of them would say it twice.
+fn answered(buffer: &mut [u8]) -> Option<usize> {
+    match next_number() {
         1 => states::answered(buffer),
         2 => tables::answered(buffer),
         3 => images::answered(buffer),
-        _ => 0,
+        _ => None,
     }
 }
 
 // Whether there was a request and its answer is written.
 fn answer_one(buffer: &mut [u8]) -> bool {
-    let filled = answered(buffer);
-    if filled == 0 {
+    let Some(filled) = answered(buffer) else {
         return false;
-    }
-    if buffer.len() < filled {
-        return false;
-    }
-    io::write_all(STDOUT_FILENO, &buffer[0..filled])
+    };
+    filled <= buffer.len() && io::write_all(STDOUT_FILENO, &buffer[..filled])
 }
 
 fn run(buffer: &mut [u8]) {
-    let requests = next_number();
-    let mut n: u64 = 0;
-    while n < requests {
+    for _ in 0..next_number() {
         if !answer_one(buffer) {
             return;
         }
-        n = n + 1;
     }
 }
 

@@ -1,11 +1,9 @@
 // A request of a state, a guest number and a number of ticks: every call that takes a state, each on that same state.
 use crate::STDIN_FILENO;
-use crate::put::{put_answer, put_number, put_numbers, put_state};
+use crate::put::{put_answer, put_each, put_number, put_numbers, put_state};
 use crate::taken::state_in;
 use crate::wire::number_at;
-use rules::{
-    Activity, Asked, LINE_PLACES, Line, Margin, Outcome, Portion, Source, State, Use, Walk,
-};
+use rules::{Activity, LINE_PLACES, Line, Portion, Refusal, Source, State, Use, Walk};
 
 const GUEST: usize = 310;
 
@@ -21,48 +19,52 @@ fn put_source(guest: u64, source: Source, buffer: &mut [u8], filled: usize) -> u
     }
 }
 
-fn put_line(line: Line, buffer: &mut [u8], filled: usize) -> usize {
-    let used = line.used;
+fn put_line(line: &Line, buffer: &mut [u8], filled: usize) -> usize {
     let at = put_numbers(&[line.first, line.end], buffer, filled);
-    match used {
+    match line.used {
         Use::Run(guest, source) => put_source(guest as u64, source, buffer, at),
         Use::Burn(owner) => put_numbers(&[3, 0, owner as u64], buffer, at),
         Use::Nothing => put_numbers(&[0, 0, 0], buffer, at),
     }
 }
 
-fn put_outcome(r: Outcome, buffer: &mut [u8], filled: usize) -> usize {
-    let answer = r.answer;
-    let state = r.state;
-    let at = put_answer(answer, buffer, filled);
-    put_state(state, buffer, at)
+// A refused call leaves the state as it was, here and with a walk.
+fn put_outcome(
+    outcome: Result<State, Refusal>,
+    s: &State,
+    buffer: &mut [u8],
+    filled: usize,
+) -> usize {
+    let at = put_answer(&outcome, buffer, filled);
+    put_state(&outcome.unwrap_or(*s), buffer, at)
 }
 
-fn put_lines(lines: [Line; LINE_PLACES], buffer: &mut [u8], filled: usize) -> usize {
-    let mut at = filled;
-    let mut i: usize = 0;
-    while i < LINE_PLACES {
-        let line = lines[i];
-        at = put_line(line, buffer, at);
-        i = i + 1;
+// What a refused walk shows.
+fn no_walk(s: &State) -> Walk {
+    let no_line = Line {
+        first: 0,
+        end: 0,
+        used: Use::Nothing,
+    };
+    Walk {
+        state: *s,
+        left: 0,
+        shown: 0,
+        lines: [no_line; LINE_PLACES],
     }
-    at
 }
 
-fn put_walk(w: Walk, buffer: &mut [u8], filled: usize) -> usize {
-    let answer = w.answer;
-    let state = w.state;
-    let lines = w.lines;
-    let stepped = put_outcome(Outcome { answer, state }, buffer, filled);
-    let told = put_numbers(&[w.left, w.shown as u64], buffer, stepped);
-    put_lines(lines, buffer, told)
+fn put_walk(outcome: Result<Walk, Refusal>, s: &State, buffer: &mut [u8], filled: usize) -> usize {
+    let at = put_answer(&outcome, buffer, filled);
+    let walk = outcome.unwrap_or(no_walk(s));
+    let stepped = put_state(&walk.state, buffer, at);
+    let told = put_numbers(&[walk.left, walk.shown as u64], buffer, stepped);
+    put_each(&walk.lines, put_line, buffer, told)
 }
 
-fn put_asked(asked: Asked, buffer: &mut [u8], filled: usize) -> usize {
-    let answer = asked.answer;
-    let next = asked.next;
-    let at = put_answer(answer, buffer, filled);
-    match next {
+fn put_asked(asked: Result<Portion, Refusal>, buffer: &mut [u8], filled: usize) -> usize {
+    let at = put_answer(&asked, buffer, filled);
+    match asked.unwrap_or(Portion::Nothing) {
         Portion::Run(guest, source, due, span) => {
             let behind = put_source(guest as u64, source, buffer, at);
             put_numbers(&[due, span], buffer, behind)
@@ -76,65 +78,50 @@ fn put_asked(asked: Asked, buffer: &mut [u8], filled: usize) -> usize {
     }
 }
 
-fn put_activity(told: Activity, buffer: &mut [u8], filled: usize) -> usize {
-    let answer = told.answer;
-    let at = put_answer(answer, buffer, filled);
-    put_numbers(&[told.mask as u64, told.actives as u64], buffer, at)
+fn put_activity(told: Result<Activity, Refusal>, buffer: &mut [u8], filled: usize) -> usize {
+    let at = put_answer(&told, buffer, filled);
+    let nobody = Activity {
+        mask: 0,
+        actives: 0,
+    };
+    let activity = told.unwrap_or(nobody);
+    put_numbers(
+        &[u64::from(activity.mask), u64::from(activity.actives)],
+        buffer,
+        at,
+    )
 }
 
-fn lowest_bit(x: i64) -> u64 {
-    if x & 1 == 0 {
-        return 0;
+fn put_margin(told: Result<i64, Refusal>, buffer: &mut [u8], filled: usize) -> usize {
+    let at = put_answer(&told, buffer, filled);
+    put_number(&told.unwrap_or(0).cast_unsigned(), buffer, at)
+}
+
+fn put_steps(s: &State, i: usize, buffer: &mut [u8]) -> usize {
+    let arrived = put_outcome(engine::arrive(*s, i), s, buffer, 0);
+    put_outcome(engine::done(*s, i), s, buffer, arrived)
+}
+
+fn put_times(s: &State, k: u64, buffer: &mut [u8], filled: usize) -> usize {
+    let advanced = put_outcome(engine::advance(*s, k), s, buffer, filled);
+    put_walk(engine::walk(*s, k), s, buffer, advanced)
+}
+
+fn put_told(s: &State, i: usize, buffer: &mut [u8], filled: usize) -> usize {
+    let asked = put_asked(engine::ask(*s), buffer, filled);
+    let active = put_activity(engine::active(*s), buffer, asked);
+    put_margin(engine::margin(*s, i), buffer, active)
+}
+
+pub(crate) fn answered(buffer: &mut [u8]) -> Option<usize> {
+    let mut request = [0u8; REQUEST_LENGTH];
+    if io::read_full(STDIN_FILENO, &mut request) < REQUEST_LENGTH {
+        return None;
     }
-    1
-}
-
-// The bits of a signed number, one by one: a cast takes no number below zero.
-fn bits_of(x: i64) -> u64 {
-    let mut bits: u64 = 0;
-    let mut rest = x;
-    let mut i: u64 = 0;
-    while i < 64 {
-        bits = bits | (lowest_bit(rest) << i);
-        rest = rest >> 1;
-        i = i + 1;
-    }
-    bits
-}
-
-fn put_margin(told: Margin, buffer: &mut [u8], filled: usize) -> usize {
-    let answer = told.answer;
-    let at = put_answer(answer, buffer, filled);
-    put_number(bits_of(told.ticks), buffer, at)
-}
-
-fn put_steps(s: State, i: usize, buffer: &mut [u8]) -> usize {
-    let arrived = put_outcome(engine::arrive(s, i), buffer, 0);
-    put_outcome(engine::done(s, i), buffer, arrived)
-}
-
-fn put_times(s: State, k: u64, buffer: &mut [u8], filled: usize) -> usize {
-    let advanced = put_outcome(engine::advance(s, k), buffer, filled);
-    put_walk(engine::walk(s, k), buffer, advanced)
-}
-
-fn put_told(s: State, i: usize, buffer: &mut [u8], filled: usize) -> usize {
-    let asked = put_asked(engine::ask(s), buffer, filled);
-    let active = put_activity(engine::active(s), buffer, asked);
-    put_margin(engine::margin(s, i), buffer, active)
-}
-
-pub(crate) fn answered(buffer: &mut [u8]) -> usize {
-    let mut space = [0u8; REQUEST_LENGTH];
-    let length = io::read_full(STDIN_FILENO, &mut space);
-    if length < REQUEST_LENGTH {
-        return 0;
-    }
-    let bytes = &space[..length];
-    let state = state_in(bytes);
-    let guest = number_at(bytes, GUEST);
-    let ticks = number_at(bytes, TICKS);
-    let stepped = put_steps(state, guest as usize, buffer);
-    let passed = put_times(state, ticks, buffer, stepped);
-    put_told(state, guest as usize, buffer, passed)
+    let state = state_in(&request);
+    let guest = number_at(&request, GUEST) as usize;
+    let ticks = number_at(&request, TICKS);
+    let stepped = put_steps(&state, guest, buffer);
+    let passed = put_times(&state, ticks, buffer, stepped);
+    Some(put_told(&state, guest, buffer, passed))
 }

@@ -14,36 +14,25 @@ const REQUEST_LENGTH: usize = 288;
 
 const BUFFER_PLACES: usize = 200;
 
-fn put_written(t: Table, borrowed: &mut [u8], buffer: &mut [u8], filled: usize) -> usize {
-    let answer = image::write(t, borrowed);
-    let at = put_answer(answer, buffer, filled);
-    put_bytes(borrowed, buffer, at)
-}
-
 fn put_all(t: Table, borrowed: &mut [u8], buffer: &mut [u8]) -> usize {
-    let answer = table::check(t);
-    let checked = put_answer(answer, buffer, 0);
+    let checked = put_answer(&table::check(t), buffer, 0);
     let made = engine::fresh(t);
-    let answer = made.answer;
-    let told = put_answer(answer, buffer, checked);
-    let state = made.state;
-    let started = put_state(state, buffer, told);
-    put_written(t, borrowed, buffer, started)
+    let told = put_answer(&made, buffer, checked);
+    let started = put_state(&made.unwrap_or(engine::no_state()), buffer, told);
+    let written = put_answer(&image::write(t, borrowed), buffer, started);
+    put_bytes(borrowed, buffer, written)
 }
 
-pub(crate) fn answered(buffer: &mut [u8]) -> usize {
-    let mut space = [0u8; REQUEST_LENGTH];
-    let got = io::read_full(STDIN_FILENO, &mut space);
-    if got < REQUEST_LENGTH {
-        return 0;
+pub(crate) fn answered(buffer: &mut [u8]) -> Option<usize> {
+    let mut request = [0u8; REQUEST_LENGTH];
+    if io::read_full(STDIN_FILENO, &mut request) < REQUEST_LENGTH {
+        return None;
     }
-    let bytes = &space[..got];
-    let length = number_at(bytes, BUFFER_LENGTH);
+    let length = number_at(&request, BUFFER_LENGTH);
     if (BUFFER_PLACES as u64) < length {
-        return 0;
+        return None;
     }
-    let places = length as usize;
-    let fill = (number_at(bytes, FILL) % 256) as u8;
+    let fill = (number_at(&request, FILL) % 256) as u8;
     let mut borrowed = [fill; BUFFER_PLACES];
-    put_all(table_in(bytes), &mut borrowed[0..places], buffer)
+    Some(put_all(table_in(&request), &mut borrowed[..length as usize], buffer))
 }

@@ -22,14 +22,14 @@ use image_reader::word_at;
 
 const NUMBER_LENGTH: usize = 8;
 
-// The number at a place, counted in numbers; 0 where it runs past the end.
+// The number at a place, counted in numbers; 0 where it runs past the end. By words: of a number that is cut off its low word counts.
 pub(crate) fn number_at(bytes: &[u8], place: usize) -> u64
     requires { place < 1000 }
 {
     let at = NUMBER_LENGTH * place;
-    let low = word_at(bytes, at);
-    let high = word_at(bytes, at + 4);
-    low as u64 + 4294967296 * (high as u64)
+    let low = word_at(bytes, at) as u64;
+    let high = word_at(bytes, at + 4) as u64;
+    low + (high << 32)
 }
 
 // The next number of standard input, or 0 at its end.
