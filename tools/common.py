@@ -45,7 +45,7 @@ class Declared(NamedTuple):
     def is_statement(self):
         """Whether this is a statement with a name, in the form that promises have."""
         stands_open = self.kind == "abbrev" or (self.kind == "record" and not self.parameters)
-        return self.folder == "specs" and self.public and stands_open and self.type == "Type 0"
+        return self.folder == "specs" and self.public and stands_open and self.type in ("Type 0", "Type 1")
 
 
 def read(path):

@@ -25,7 +25,7 @@ CONSEQUENCE = "was not admitted"
 # What the checker says where a statement does not hold.
 FACTS = re.compile(
     r"does not follow from what it read"
-    r"|(types|indices|terms) (differ only|first differ) where"
+    r"|(types|indices|terms|values) (differ only|first differ) where"
     r"|the two types are `Path "
     r"|expected type .* but this has type"
     r"|is checked against .* which is not a"
