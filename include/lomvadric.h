@@ -21,8 +21,8 @@ extern "C" {
 
 #define LOMVADRIC_VERSION_MAJOR 0
 #define LOMVADRIC_VERSION_MINOR 2
-#define LOMVADRIC_VERSION_PATCH 2
-#define LOMVADRIC_VERSION "0.2.2"
+#define LOMVADRIC_VERSION_PATCH 3
+#define LOMVADRIC_VERSION "0.2.3"
 
 /* The places of a table, of a list of spares and of a walk. */
 #define LOMVADRIC_GUEST_PLACES 16
@@ -33,7 +33,7 @@ extern "C" {
  * The bytes of stack that each call takes below its caller's, return address included, with a memcpy and a memset that need no more than
  * theirs. They were measured and rounded up; no theorem says them. tests/stack.c measures them anew, and fails where a call takes more.
  */
-#define LOMVADRIC_STACK_FRESH 5120
+#define LOMVADRIC_STACK_FRESH 3072
 #define LOMVADRIC_STACK_ARRIVE 15360
 #define LOMVADRIC_STACK_DONE 11264
 #define LOMVADRIC_STACK_ADVANCE 36864

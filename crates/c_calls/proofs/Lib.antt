@@ -1,2 +1,3 @@
 -- Laws of what C reads.
 pub mod Filling
+pub mod Starting
