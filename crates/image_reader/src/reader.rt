@@ -10,7 +10,7 @@ use crate::word_at;
 const TRAILER_BYTES: usize = 12;
 
 // An image and the place that is read next, which stays at the largest number that a place can be.
-#[derive(Drop)]
+#[derive(Clone, Copy)]
 pub struct Reader<'a> {
     pub image: &'a [u8],
     pub at: usize,
