@@ -31,14 +31,11 @@ pub fn fresh(table: Table) -> Changed
     ensures { FreshInPlace table result.state result.refusal }
 {
     let refusal = number_of(&engine::fresh(table));
-    let none = engine::no_state();
-    Changed {
-        refusal,
-        state: State {
-            table: if refusal == 0 { table } else { none.table },
-            ..none
-        },
+    let mut state = engine::no_state();
+    if refusal == 0 {
+        state.table = table;
     }
+    Changed { refusal, state }
 }
 
 // A job arrives at a guest.
